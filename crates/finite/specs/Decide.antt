@@ -1,0 +1,83 @@
+-- Deciding a statement: combinations of decided statements, and a Bool that tells which way a decision went.
+use mathlib.Core.Path.{_≡_, refl}
+use mathlib.Core.Logic.{_≢_, _⊎_, inl, inr}
+use mathlib.Core.Bool.{Bool, true, false}
+use Prim.Native.Nat.{ℕ, _≤_, _<_}
+use native.Mathlib.Omega.{arith}
+use native.Mathlib.Decide.{decLe, ℕ-discrete}
+
+-- ---- case distinctions
+unfoldable pub le-or-lt : (a b : ℕ) → (a ≤ b) ⊎ (b < a)
+unfolding decLe
+le-or-lt a b = go (decLe a b)
+  where
+    go : Dec (a ≤ b) → (a ≤ b) ⊎ (b < a)
+    go (yes h) = inl h
+    go (no h) = inr (omega arith)
+
+unfoldable pub eq-or-ne : (a b : ℕ) → (a ≡ b) ⊎ (a ≢ b)
+unfolding ℕ-discrete
+eq-or-ne a b = go (ℕ-discrete a b)
+  where
+    go : Dec (a ≡ b) → (a ≡ b) ⊎ (a ≢ b)
+    go (yes h) = inl h
+    go (no h) = inr h
+
+-- ---- combinations
+unfoldable pub dec-× : {A B : Type 0} → Dec A → Dec B → Dec (A × B)
+dec-× (yes a) (yes b) = yes (a, b)
+dec-× (yes a) (no h) = no (λ p. h (p .1))
+dec-× (no h) b = no (λ p. h (p .0))
+
+unfoldable pub dec-×₃ : {A B C : Type 0} → Dec A → Dec B → Dec C → Dec (A × B × C)
+dec-×₃ (yes a) (yes b) (yes c) = yes (a, b, c)
+dec-×₃ (yes a) (yes b) (no h) = no (λ p. h (p .2))
+dec-×₃ (yes a) (no h) c = no (λ p. h (p .1))
+dec-×₃ (no h) b c = no (λ p. h (p .0))
+
+unfoldable pub dec-⊎ : {A B : Type 0} → Dec A → Dec B → Dec (A ⊎ B)
+dec-⊎ {A} {B} (no h) (no k) = no go
+  where
+    go : A ⊎ B → ⊥
+    go (inl a) = h a
+    go (inr b) = k b
+dec-⊎ (no h) (yes b) = yes (inr b)
+dec-⊎ (yes a) b = yes (inl a)
+
+unfoldable pub dec-¬ : {A : Type 0} → Dec A → Dec (¬ A)
+dec-¬ (yes a) = no (λ f. f a)
+dec-¬ (no h) = yes h
+
+unfoldable pub dec-iff : {A B : Type 0} → (A → B) → (B → A) → Dec A → Dec B
+dec-iff f g (yes a) = yes (f a)
+dec-iff f g (no h) = no (λ b. h (g b))
+
+pub stable : {A : Type 0} → Dec A → ¬ (¬ A) → A
+stable (yes p) f = p
+stable (no h) f = absurd (f h)
+
+-- ---- a Bool that tells
+-- b says whether A holds
+abbrev pub Tells : Bool → Type 0 → Type 0
+Tells true A = A
+Tells false A = ¬ A
+
+-- whether a decided statement holds
+unfoldable pub holds : {A : Type 0} → Dec A → Bool
+holds (yes a) = true
+holds (no h) = false
+
+pub holds-tells : {A : Type 0} (d : Dec A) → Tells (holds d) A
+unfolding holds
+holds-tells (yes a) = a
+holds-tells (no h) = h
+
+pub tells-same : (A : Type 0) (b c : Bool) → Tells b A → Tells c A → b ≡ c
+tells-same A true true s t = refl
+tells-same A true false s t = absurd (t s)
+tells-same A false true s t = absurd (s t)
+tells-same A false false s t = refl
+
+-- a Bool that tells is the decision's
+pub tells-holds : {A : Type 0} (d : Dec A) (b : Bool) → Tells b A → holds d ≡ b
+tells-holds {A} d b t = tells-same A (holds d) b (holds-tells d) t

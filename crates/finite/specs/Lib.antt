@@ -1,0 +1,8 @@
+-- Laws on finite ranges of numbers that every layer above shares. Nothing here knows of floorplans.
+pub mod Decide
+pub mod Search
+pub mod First
+pub mod Sum
+pub mod Count
+pub mod Table
+pub mod Every

@@ -1,0 +1,28 @@
+-- The list of f 0 to f (n - 1).
+use mathlib.Core.Path.{_≡_, refl, ap}
+use mathlib.Core.List.{List, [], _∷_}
+use Prim.Native.Nat.{ℕ, zero, suc, _≤_, _<_}
+use native.Mathlib.Nat.{not-suc-le-zero}
+use native.Mathlib.Omega.{arith}
+use lib.ListN.{length, getD, take}
+
+unfoldable pub table : {A : Type 0} → (ℕ → A) → ℕ → List A
+table f zero = []
+table f (suc n) = f 0 ∷ table (λ i. f (suc i)) n
+
+pub length-table : {A : Type 0} (f : ℕ → A) (n : ℕ) → length (table f n) ≡ n
+unfolding table
+length-table f zero = refl
+length-table f (suc n) = ap suc (length-table (λ i. f (suc i)) n)
+
+pub getD-table : {A : Type 0} (f : ℕ → A) (n i : ℕ) (z : A) → i < n → getD (table f n) i z ≡ f i
+unfolding table
+getD-table f zero i z h = absurd (not-suc-le-zero h)
+getD-table f (suc n) zero z h = refl
+getD-table f (suc n) (suc i) z h = getD-table (λ i. f (suc i)) n i z (omega arith)
+
+pub take-table : {A : Type 0} (f : ℕ → A) (m k : ℕ) → k ≤ m → take k (table f m) ≡ table f k
+unfolding table
+take-table f m zero h = refl
+take-table f zero (suc k) h = absurd (not-suc-le-zero h)
+take-table f (suc m) (suc k) h = ap (λ (rest : List _). f 0 ∷ rest) (take-table (λ i. f (suc i)) m k (omega arith))

@@ -1,0 +1,2 @@
+pub mod Encoded
+pub mod Picks

@@ -1,0 +1,55 @@
+-- One label of each run on one side is kept: enough to tell whether a new label lies past the nearest run.
+use mathlib.Core.Bool.{Bool, true, false}
+use mathlib.Core.List.{List, [], _∷_}
+use mathlib.Core.Path.{_≡_, sym, subst}
+use Prim.Native.Nat.{ℕ}
+use Rattle.record.specs.Way.{Way, up, down, other, Past, past-trans, past-not-self, past-turn, past-turn-back, Order, before, same, after, order}
+use Rattle.record.specs.Sides.{Run, Side, last, more, near-seen}
+use Rattle.record.specs.Runs.{Runs, Faithful, Inside, currentRun, Before, no-run, first-run}
+use Rattle.record.specs.Forward.{Takes, leave, take}
+
+-- y is one of the labels of the run r
+pub record Within (way : Way) (y : ℕ) (r : Run) : Type 0 where
+  pub not-before : ¬ Past way y (r .near)
+  pub not-after : ¬ Past way (r .far) y
+
+-- one label of each run, the nearest first
+pub data Picks (way : Way) : List ℕ → List Run → Type 0 where
+  none : Picks way [] []
+  one : {y : ℕ} {ys : List ℕ} {r : Run} {rs : List Run} → Within way y r → Picks way ys rs → Picks way (y ∷ ys) (r ∷ rs)
+
+-- y is a label of the nearest run, or there is none and v does not lie past y
+pub data Nearest (way : Way) (y v : ℕ) : List Run → Type 0 where
+  beyond : ¬ Past way y v → Nearest way y v []
+  picked : {r : Run} {rs : List Run} → Within way y r → Nearest way y v (r ∷ rs)
+
+-- the newest label is one of the current run's
+pub inside-within : (z : Runs) (c : ℕ) → Inside z c → (way : Way) → Within way c (currentRun z way)
+inside-within z c inside way = record { not-before = λ p. inside (other way) (past-turn p); not-after = inside way }
+
+module _ {S : ℕ → Type 0} {z : Runs} (k : Faithful S z) {turn : Way} {v y : ℕ} where
+  -- a fresh label that is not past y lies before the nearest run
+  pub not-past-before : ¬ S v → Nearest turn y v (z .stack turn) → ¬ Past turn y v → Before turn v (z .stack turn)
+  not-past-before fresh near not-past = go (k .sides turn) near
+    where
+      go : {rs : List Run} → Side S turn (z .edge turn) rs → Nearest turn y v rs → Before turn v rs
+      go (last f) n = no-run
+      go (more {r = r} {rs} n a s) (picked w) = place (order turn v (r .near))
+        where
+          in-run : ¬ Past turn v (r .near) → Before turn v (r ∷ rs)
+          in-run from = absurd (fresh (n .full v from (λ p. reach (order turn y v) p)))
+            where
+              reach : Order turn y v → Past turn (r .far) v → ⊥
+              reach (before q) p = not-past q
+              reach (same e) p = w .not-after (subst (Past turn (r .far)) (sym e) p)
+              reach (after q) p = w .not-after (past-trans p q)
+
+          place : Order turn v (r .near) → Before turn v (r ∷ rs)
+          place (before p) = first-run p
+          place (same e) = in-run (λ p. past-not-self (subst (Past turn v) (sym e) p))
+          place (after p) = in-run (λ q. past-not-self (past-trans p q))
+
+-- and one that is past y does not
+pub past-not-before : {turn : Way} {v y : ℕ} {rs : List Run} → Nearest turn y v rs → Past turn y v → ¬ Before turn v rs
+past-not-before (beyond n) p b = n p
+past-not-before (picked w) p (first-run b) = w .not-before (past-trans p b)

@@ -1,0 +1,21 @@
+-- Definitions, in the sheet's words
+pub mod Labels
+pub mod Barred
+pub mod Triple
+pub mod Walk
+pub mod Record
+pub mod Refusal
+pub mod Causes
+pub mod Answer
+-- Theorems, and what they rest on
+pub mod Way
+pub mod Sides
+pub mod Runs
+pub mod Decode
+pub mod NextTo
+pub mod Forward
+pub mod Sizes
+pub mod Backward
+pub mod Demand1
+pub mod Demand2
+pub mod Worked

@@ -1,0 +1,40 @@
+-- The sheet's table of refusals: cause and number.
+use Prim.Native.Nat.{ℕ}
+use Rattle.record.specs.declared.Refusal.{Refusal}
+use Rattle.record.specs.declared.Refusal.the-variants.{Count, RoomSize, Overlap, Uncovered, FourMeet, LabelOutside, LabelTwice, BarredPattern, NoKind, ShortBody, BytesAfter, MissingRun, SeveralRuns, SpareBit, ShortOutput, PositionOutside, SamePosition}
+
+abbrev pub numberOf : Refusal → ℕ
+-- room or label list of 0 or over 255 entries
+numberOf Count = 1
+-- room with right ≤ left or top ≤ bottom
+numberOf RoomSize = 2
+-- two rooms share a unit square
+numberOf Overlap = 3
+-- a unit square of the outline is in no room
+numberOf Uncovered = 4
+-- four rooms meet at a point
+numberOf FourMeet = 5
+-- label outside 1 to n
+numberOf LabelOutside = 6
+-- label occurs twice
+numberOf LabelTwice = 7
+-- barred pattern
+numberOf BarredPattern = 8
+-- record empty or kind 0
+numberOf NoKind = 9
+-- body shorter than its kind fixes
+numberOf ShortBody = 10
+-- bytes after the body
+numberOf BytesAfter = 11
+-- a triple needs a run that is missing
+numberOf MissingRun = 12
+-- more than one run at the end
+numberOf SeveralRuns = 13
+-- spare bit is 1
+numberOf SpareBit = 14
+-- an output slice too short
+numberOf ShortOutput = 15
+-- asked position outside 1 to n
+numberOf PositionOutside = 16
+-- the two asked positions equal
+numberOf SamePosition = 17

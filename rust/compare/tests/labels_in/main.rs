@@ -1,0 +1,9 @@
+//! "Labels in": the library against the definitions.
+
+mod damaged_lists;
+mod permutations;
+mod random_lists;
+mod refusals;
+mod slices;
+mod small_lists;
+mod worked_plans;

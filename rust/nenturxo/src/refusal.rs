@@ -1,0 +1,102 @@
+//! The sheet's numbered refusals.
+
+use crate::sys::Code;
+use std::fmt;
+
+/// A refusal: the call found a cause not to give its result, and wrote
+/// nothing.
+///
+/// The constants are the rows of the sheet's table.
+///
+/// ```
+/// use nenturxo::Refusal;
+///
+/// let refusal = nenturxo::labels_in(&[2, 4, 1, 3], &mut [0; 3]).unwrap_err();
+/// assert_eq!(refusal, Refusal::BARRED_PATTERN);
+/// assert_eq!(refusal.number(), 8);
+/// assert_eq!(refusal.to_string(), "refusal 8: barred pattern");
+/// ```
+#[derive(Clone, Copy, Debug, PartialEq, Eq, PartialOrd, Ord, Hash)]
+pub struct Refusal(u32);
+
+impl Refusal {
+    /// 1: room or label list of 0 or over 255 entries
+    pub const LIST_LENGTH: Self = Self(1);
+    /// 2: room with right ≤ left or top ≤ bottom
+    pub const EMPTY_ROOM: Self = Self(2);
+    /// 3: two rooms share a unit square
+    pub const SHARED_SQUARE: Self = Self(3);
+    /// 4: a unit square of the outline is in no room
+    pub const OPEN_SQUARE: Self = Self(4);
+    /// 5: four rooms meet at a point
+    pub const FOUR_ROOMS_MEET: Self = Self(5);
+    /// 6: label outside 1 to n
+    pub const LABEL_OUTSIDE: Self = Self(6);
+    /// 7: label occurs twice
+    pub const LABEL_TWICE: Self = Self(7);
+    /// 8: barred pattern
+    pub const BARRED_PATTERN: Self = Self(8);
+    /// 9: record empty or kind 0
+    pub const NO_KIND: Self = Self(9);
+    /// 10: body shorter than its kind fixes
+    pub const BODY_SHORT: Self = Self(10);
+    /// 11: bytes after the body
+    pub const BYTES_AFTER: Self = Self(11);
+    /// 12: a triple needs a run that is missing
+    pub const RUN_MISSING: Self = Self(12);
+    /// 13: more than one run at the end
+    pub const RUNS_LEFT: Self = Self(13);
+    /// 14: spare bit is 1
+    pub const SPARE_BIT: Self = Self(14);
+    /// 15: an output slice too short
+    pub const SLICE_SHORT: Self = Self(15);
+    /// 16: asked position outside 1 to n
+    pub const POSITION_OUTSIDE: Self = Self(16);
+    /// 17: the two asked positions equal
+    pub const POSITIONS_EQUAL: Self = Self(17);
+
+    /// The refusal that a code below 0 stands for.
+    pub(crate) const fn from_code(code: Code) -> Self {
+        Self(code.unsigned_abs())
+    }
+
+    /// The refusal's number in the sheet's table.
+    #[must_use]
+    pub const fn number(self) -> u32 {
+        self.0
+    }
+
+    /// The refusal's cause, in the words of the sheet's table.
+    #[must_use]
+    pub const fn cause(self) -> &'static str {
+        match self {
+            Self::LIST_LENGTH => "room or label list of 0 or over 255 entries",
+            Self::EMPTY_ROOM => "room with right ≤ left or top ≤ bottom",
+            Self::SHARED_SQUARE => "two rooms share a unit square",
+            Self::OPEN_SQUARE => "a unit square of the outline is in no room",
+            Self::FOUR_ROOMS_MEET => "four rooms meet at a point",
+            Self::LABEL_OUTSIDE => "label outside 1 to n",
+            Self::LABEL_TWICE => "label occurs twice",
+            Self::BARRED_PATTERN => "barred pattern",
+            Self::NO_KIND => "record empty or kind 0",
+            Self::BODY_SHORT => "body shorter than its kind fixes",
+            Self::BYTES_AFTER => "bytes after the body",
+            Self::RUN_MISSING => "a triple needs a run that is missing",
+            Self::RUNS_LEFT => "more than one run at the end",
+            Self::SPARE_BIT => "spare bit is 1",
+            Self::SLICE_SHORT => "an output slice too short",
+            Self::POSITION_OUTSIDE => "asked position outside 1 to n",
+            Self::POSITIONS_EQUAL => "the two asked positions equal",
+            // The library has no other numbers.
+            _ => "not in the table",
+        }
+    }
+}
+
+impl fmt::Display for Refusal {
+    fn fmt(&self, f: &mut fmt::Formatter<'_>) -> fmt::Result {
+        write!(f, "refusal {}: {}", self.number(), self.cause())
+    }
+}
+
+impl std::error::Error for Refusal {}

@@ -1,0 +1,115 @@
+//! The sheet's table of refusals.
+
+use std::fmt;
+
+/// A numbered refusal: one variant for each row of the sheet's table.
+#[derive(Clone, Copy, Debug, PartialEq, Eq, Hash)]
+#[repr(u8)]
+pub enum Refusal {
+    /// 1: room or label list of 0 or over 255 entries
+    ListLength = 1,
+    /// 2: room with right ≤ left or top ≤ bottom
+    EmptyRoom = 2,
+    /// 3: two rooms share a unit square
+    SharedSquare = 3,
+    /// 4: a unit square of the outline is in no room
+    OpenSquare = 4,
+    /// 5: four rooms meet at a point
+    FourRoomsMeet = 5,
+    /// 6: label outside 1 to n
+    LabelOutside = 6,
+    /// 7: label occurs twice
+    LabelTwice = 7,
+    /// 8: barred pattern
+    BarredPattern = 8,
+    /// 9: record empty or kind 0
+    NoKind = 9,
+    /// 10: body shorter than its kind fixes
+    BodyShort = 10,
+    /// 11: bytes after the body
+    BytesAfter = 11,
+    /// 12: a triple needs a run that is missing
+    RunMissing = 12,
+    /// 13: more than one run at the end
+    RunsLeft = 13,
+    /// 14: spare bit is 1
+    SpareBit = 14,
+    /// 15: an output slice too short
+    SliceShort = 15,
+    /// 16: asked position outside 1 to n
+    PositionOutside = 16,
+    /// 17: the two asked positions equal
+    PositionsEqual = 17,
+}
+
+impl Refusal {
+    /// Every refusal, in the order of the table.
+    pub const ALL: [Self; 17] = [
+        Self::ListLength,
+        Self::EmptyRoom,
+        Self::SharedSquare,
+        Self::OpenSquare,
+        Self::FourRoomsMeet,
+        Self::LabelOutside,
+        Self::LabelTwice,
+        Self::BarredPattern,
+        Self::NoKind,
+        Self::BodyShort,
+        Self::BytesAfter,
+        Self::RunMissing,
+        Self::RunsLeft,
+        Self::SpareBit,
+        Self::SliceShort,
+        Self::PositionOutside,
+        Self::PositionsEqual,
+    ];
+
+    /// The refusal's number in the table.
+    #[must_use]
+    pub const fn number(self) -> u8 {
+        self as u8
+    }
+
+    /// The refusal's cause, in the words of the table.
+    #[must_use]
+    pub const fn cause(self) -> &'static str {
+        match self {
+            Self::ListLength => "room or label list of 0 or over 255 entries",
+            Self::EmptyRoom => "room with right ≤ left or top ≤ bottom",
+            Self::SharedSquare => "two rooms share a unit square",
+            Self::OpenSquare => "a unit square of the outline is in no room",
+            Self::FourRoomsMeet => "four rooms meet at a point",
+            Self::LabelOutside => "label outside 1 to n",
+            Self::LabelTwice => "label occurs twice",
+            Self::BarredPattern => "barred pattern",
+            Self::NoKind => "record empty or kind 0",
+            Self::BodyShort => "body shorter than its kind fixes",
+            Self::BytesAfter => "bytes after the body",
+            Self::RunMissing => "a triple needs a run that is missing",
+            Self::RunsLeft => "more than one run at the end",
+            Self::SpareBit => "spare bit is 1",
+            Self::SliceShort => "an output slice too short",
+            Self::PositionOutside => "asked position outside 1 to n",
+            Self::PositionsEqual => "the two asked positions equal",
+        }
+    }
+}
+
+impl fmt::Display for Refusal {
+    fn fmt(&self, f: &mut fmt::Formatter<'_>) -> fmt::Result {
+        f.write_str(self.cause())
+    }
+}
+
+impl std::error::Error for Refusal {}
+
+#[cfg(test)]
+mod tests {
+    use super::Refusal;
+
+    #[test]
+    fn numbers_are_1_to_17_in_the_order_of_the_table() {
+        let numbers: Vec<u8> = Refusal::ALL.iter().map(|r| r.number()).collect();
+        assert_eq!(numbers, (1..=17).collect::<Vec<u8>>());
+    }
+}
