@@ -20,7 +20,9 @@ use Rattle.record.specs.Triple.{Triple, triple, tripleAt}
 use Rattle.record.specs.Walk.{Accepted}
 use Rattle.record.specs.Record.{bodyLength, tripleBit, bodyBit, tripleIn, recordOf}
 use Rattle.record.specs.Answer.{labelsAnswer}
-use Rattle.record.specs.Demand1.{LabelsSays, count, outside, twice, barred, short, wrote, demand1-labels-cause, demand1-labels-answer}
+use Rattle.record.specs.Demand1 as says
+use Rattle.record.specs.Demand1.{LabelsSays, wrote, demand1-labels-cause, demand1-labels-answer}
+use Rattle.record.specs.Causes.{BadCount}
 use Rattle.record.specs.Decode.{labelOf, decode}
 use Rattle.record.specs.NextTo.{not-barred-next}
 use Rattle.record.specs.Forward.{accepted}
@@ -153,27 +155,46 @@ once-inside labels each (i, a, b, h) = elim h [ inl l ↦ omega (arith, each .ra
 pub once-single : (labels : List ℕ) → EachOnce (labelAt labels) (length labels) → ¬ LabelTwice labels
 once-single labels each (j, a, b, (i, c, d, e)) = omega (arith, each .once i j c (omega arith) a (omega arith) e)
 
+-- a record that is written has none of the causes, and its length is the answer
+record Causeless (labels : List ℕ) (size : ℕ) : Type 0 where
+  count : ¬ BadCount (length labels)
+  outside : ¬ LabelOutside labels
+  twice : ¬ LabelTwice labels
+  barred : ¬ Barred (labelAt labels) (length labels)
+  is : size ≡ length (recordOf labels)
+
+wrote-causes : (labels : List ℕ) (capacity : ℕ) {size : ℕ} → labelsAnswer labels capacity ≡ Wrote size → Causeless labels size
+wrote-causes labels capacity {size} e = go (demand1-labels-cause labels capacity) e
+  where
+    never : {refusal : Refusal} → Refused refusal ≡ Wrote size → Causeless labels size
+    never e = absurd (let z : _≡_ {A = ℕ} 0 1 = cc in omega arith)
+
+    go : {a : LabelsAnswer} → LabelsSays labels capacity a → a ≡ Wrote size → Causeless labels size
+    go (says.count h) e = never e
+    go (says.outside b h) e = never e
+    go (says.twice b c h) e = never e
+    go (says.barred b c d h) e = never e
+    go (says.short b c d f h) e = never e
+    go (says.wrote b c d f h) e = record { count = b; outside = c; twice = d; barred = f; is = cc }
+
+-- the length answered is at most 97
+pub wrote-at-most-97 : (labels : List ℕ) (capacity size : ℕ) → labelsAnswer labels capacity ≡ Wrote size → size ≤ 97
+wrote-at-most-97 labels capacity size e =
+    let w = wrote-causes labels capacity e in
+    let few : ¬ (255 < length labels) = λ z. w .count (inr z) in
+    omega (arith, w .is, record-at-most-97 labels (omega arith))
+
 -- "Every Baxter permutation of 1 to 255 labels is accepted, given long enough output slices, and no other list is."
 pub demand2-accepts-baxter : (labels : List ℕ) (capacity : ℕ) → length (recordOf labels) ≤ capacity
     → (labelsAnswer labels capacity ≡ Wrote (length (recordOf labels))) ↔ (Baxter labels × (1 ≤ length labels) × (length labels ≤ 255))
 demand2-accepts-baxter labels capacity room = (to, from)
   where
     to : labelsAnswer labels capacity ≡ Wrote (length (recordOf labels)) → Baxter labels × (1 ≤ length labels) × (length labels ≤ 255)
-    to e = go (labelsAnswer labels capacity) (demand1-labels-cause labels capacity) e
-      where
-        never : {A : Type 0} {refusal : Refusal} {size : ℕ} → Refused refusal ≡ Wrote size → A
-        never e = absurd (let z : _≡_ {A = ℕ} 0 1 = cc in omega arith)
-
-        go : (a : LabelsAnswer) → LabelsSays labels capacity a → a ≡ Wrote (length (recordOf labels)) → Baxter labels × (1 ≤ length labels) × (length labels ≤ 255)
-        go a (count h) e = never e
-        go a (outside b h) e = never e
-        go a (twice b c h) e = never e
-        go a (barred b c d h) e = never e
-        go a (short b c d f h) e = never e
-        go a (wrote b c d f h) e =
-            let some : length labels ≢ 0 = λ z. b (inl z) in
-            let few : ¬ (255 < length labels) = λ z. b (inr z) in
-            (record { each-once = each-once labels c d; not-barred = f }, omega arith, omega arith)
+    to e =
+        let w = wrote-causes labels capacity e in
+        let some : length labels ≢ 0 = λ z. w .count (inl z) in
+        let few : ¬ (255 < length labels) = λ z. w .count (inr z) in
+        (record { each-once = each-once labels (w .outside) (w .twice); not-barred = w .barred }, omega arith, omega arith)
 
     from : Baxter labels × (1 ≤ length labels) × (length labels ≤ 255) → labelsAnswer labels capacity ≡ Wrote (length (recordOf labels))
     from (b, some, few) =

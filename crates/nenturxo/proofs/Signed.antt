@@ -1,0 +1,49 @@
+-- Numbers that fit 32 bits with a sign.
+use mathlib.Core.Path.{_≡_}
+use Prim.Native.Nat.{ℕ, zero, suc, _^_, _≤_, _<_}
+use native.Mathlib.Omega.{arith}
+use borrow.Author.Tests.{lt-ltb}
+use lib.IntN.{pos, negℤ, _-ℤ_, +ℤ-idl}
+use Rattle.record.specs.Refusal.{numberOf}
+use Rattle.record.specs.declared.Refusal.{Refusal}
+use Rattle.record.specs.declared.Refusal.the-variants.{Count, RoomSize, Overlap, Uncovered, FourMeet, LabelOutside, LabelTwice, BarredPattern, NoKind, ShortBody, BytesAfter, MissingRun, SeveralRuns, SpareBit, ShortOutput, PositionOutside, SamePosition}
+use Rattle.nenturxo.specs.Code.{refusalCode}
+use mir.Syntax.{w32}
+use mir.Val.{SFits, toZ}
+
+pub small-is : (n : ℕ) → n < 65536 → toZ w32 n ≡ pos n
+small-is n h = let l : n < 2 ^ 31 = omega arith in rw (lt-ltb n (2 ^ 31) l)
+
+pub small-fits : (n : ℕ) → n < 65536 → SFits w32 (pos n)
+small-fits n h = record { sfits = omega arith }
+
+-- the difference as the code computes it
+pub negated-is : (n : ℕ) → n < 65536 → pos 0 -ℤ toZ w32 n ≡ negℤ (pos n)
+negated-is n h = rw (small-is n h) (+ℤ-idl (negℤ (pos n)))
+
+pub negated-fits : (n : ℕ) → n < 65536 → SFits w32 (negℤ (pos n))
+negated-fits zero h = record { sfits = omega arith }
+negated-fits (suc n) h = record { sfits = omega arith }
+
+-- a refusal's number is one of 1 to 17
+number-small : (refusal : Refusal) → numberOf refusal ≤ 17
+number-small Count = omega arith
+number-small RoomSize = omega arith
+number-small Overlap = omega arith
+number-small Uncovered = omega arith
+number-small FourMeet = omega arith
+number-small LabelOutside = omega arith
+number-small LabelTwice = omega arith
+number-small BarredPattern = omega arith
+number-small NoKind = omega arith
+number-small ShortBody = omega arith
+number-small BytesAfter = omega arith
+number-small MissingRun = omega arith
+number-small SeveralRuns = omega arith
+number-small SpareBit = omega arith
+number-small ShortOutput = omega arith
+number-small PositionOutside = omega arith
+number-small SamePosition = omega arith
+
+pub refused-fits : (refusal : Refusal) → SFits w32 (refusalCode refusal)
+refused-fits refusal = negated-fits (numberOf refusal) (omega (arith, number-small refusal))

@@ -1,0 +1,76 @@
+-- `nenturxo::nenturxo_labels_in` meets its contract: the answer of Labels in, as a number. A length is at most 97, so it fits.
+use mathlib.Core.Path.{_≡_, sym, ap, _∙_}
+use Prim.Native.Nat.{ℕ}
+use native.Mathlib.Omega.{arith}
+use lib.ListN.{length}
+use mir.Syntax.{w32}
+use mir.Val.{toZ, ofZ}
+use mir.ValLaws.{toZ-ofZ}
+use lib.IntN.{ℤ}
+use borrow.Author.Needs.{needs}
+use Rattle.record.specs.declared.LabelsAnswer.{LabelsAnswer}
+use Rattle.record.specs.Answer.{labelsAnswer, recordAfter}
+use Rattle.record.specs.Demand2.{wrote-at-most-97}
+use Rattle.nenturxo.specs.Code.{refusalCode, labelsCode}
+use Rattle.nenturxo.proofs.Signed.{small-is, small-fits, refused-fits}
+use Rattle.nenturxo.proofs.nenturxo_labels_in.Statement.{statement}
+use Rattle.nenturxo.proofs.nenturxo_labels_in.Tie as tie
+use Rattle.nenturxo.proofs.nenturxo_labels_in.Reads as reads
+use Rattle.nenturxo.proofs.nenturxo_labels_in.Lts as lts
+use Rattle.labels.proofs.labels_in.Reads as labels-in-reads
+use Rattle.nenturxo.proofs.refused.Reads as refused-reads
+
+labels-in-requires : tie.Need-labels-in-requires
+labels-in-requires c κs = search needs
+
+enum-known-size : tie.Need-enum-known-size
+enum-known-size c = search needs
+
+cast-result : tie.Need-cast-result
+cast-result c =
+    let call = c .before .before .before .before .before .labels-in in
+    let a = c .before .before .before .before .before .before .before .before .before .args in
+    small-fits (c .before .size .given .0 .0) (omega (arith, wrote-at-most-97 (a .labels .now) (length (a .«record» .now)) (c .before .size .given .0 .0) (sym (call .ensures .0) ∙ c .before .size .given .1)))
+
+enum-known-refusal : tie.Need-enum-known-refusal
+enum-known-refusal c = search needs
+
+refused-requires : tie.Need-refused-requires
+refused-requires c κs = search needs
+
+same-length : tie.Need-same-length
+same-length c = search needs
+
+returns : tie.Need-returns
+returns c =
+    let call = c .before .before .before .before .before .labels-in in
+    let a = c .before .before .before .before .before .before .before .before .before .args in
+    let size = c .before .size .given .0 .0 in (
+      small-is size (omega (arith, wrote-at-most-97 (a .labels .now) (length (a .«record» .now)) size (sym (call .ensures .0) ∙ c .before .size .given .1))) ∙ ap labelsCode (sym (c .before .size .given .1) ∙ call .ensures .0),
+      call .ensures .1 ∙ ap (λ (answer : LabelsAnswer). recordAfter answer (a .labels .now) (a .«record» .now)) (call .ensures .0),
+    )
+
+same-length-2 : tie.Need-same-length-2
+same-length-2 c = search needs
+
+returns-2 : tie.Need-returns-2
+returns-2 c =
+    let call = c .before .before .before .before .before .before .labels-in in
+    let a = c .before .before .before .before .before .before .before .before .before .before .args in (
+      ap (λ (z : ℤ). toZ w32 (ofZ w32 z)) (c .refused .ensures) ∙ toZ-ofZ w32 (refusalCode (c .before .before .refusal .given .0 .0)) (refused-fits (c .before .before .refusal .given .0 .0)) ∙ ap labelsCode (sym (c .before .before .refusal .given .1) ∙ call .ensures .0),
+      call .ensures .1 ∙ ap (λ (answer : LabelsAnswer). recordAfter answer (a .labels .now) (a .«record» .now)) (call .ensures .0),
+    )
+
+pub nenturxo-labels-in-spec : {M : Type 1} → statement M
+nenturxo-labels-in-spec =
+    tie.close
+    (tie.spec
+    labels-in-requires
+    enum-known-size
+    cast-result
+    enum-known-refusal
+    refused-requires
+    same-length
+    returns
+    same-length-2
+    returns-2)
