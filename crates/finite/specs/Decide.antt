@@ -48,6 +48,10 @@ unfoldable pub dec-¬ : {A : Type 0} → Dec A → Dec (¬ A)
 dec-¬ (yes a) = no (λ f. f a)
 dec-¬ (no h) = yes h
 
+unfoldable pub dec-true : (b : Bool) → Dec (b ≡ true)
+dec-true true = yes refl
+dec-true false = no (λ e. let z : _≡_ {A = ℕ} 0 1 = cc in omega arith)
+
 unfoldable pub dec-iff : {A B : Type 0} → (A → B) → (B → A) → Dec A → Dec B
 dec-iff f g (yes a) = yes (f a)
 dec-iff f g (no h) = no (λ b. h (g b))

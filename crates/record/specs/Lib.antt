@@ -12,10 +12,13 @@ pub mod Way
 pub mod Sides
 pub mod Runs
 pub mod Decode
+pub mod Read
 pub mod NextTo
 pub mod Forward
 pub mod Sizes
 pub mod Backward
 pub mod Demand1
 pub mod Demand2
+pub mod Checked
+pub mod Demand2Read
 pub mod Worked

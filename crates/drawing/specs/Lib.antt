@@ -1,0 +1,10 @@
+-- Definitions, in the sheet's words
+pub mod Drawing
+pub mod Relation
+pub mod Touch
+-- Theorems, and what they rest on
+pub mod Nearest
+pub mod Squares
+pub mod Tiling
+-- The sheet's worked drawing
+pub mod Worked
