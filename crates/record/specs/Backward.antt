@@ -7,6 +7,7 @@ use mathlib.Core.List.{List, [], _∷_}
 use Prim.Native.Nat.{ℕ, zero, suc, _+_, _-_, _≤_, _<_}
 use native.Mathlib.Omega.{arith}
 use lib.ListN.{length, getD}
+use Rattle.bits.specs.Bit.{bit}
 use Rattle.finite.specs.Decide.{le-or-lt, eq-or-ne}
 use Rattle.finite.specs.Table.{table, length-table, getD-table}
 use Rattle.record.specs.Labels.{labelAt, EachOnce}
@@ -14,8 +15,8 @@ use Rattle.record.specs.Barred.{Barred, Baxter}
 use Rattle.record.specs.Triple.{Triple, triple, tripleAt}
 use Rattle.record.specs.Walk.{Counts, missing, counts, step, andThen, walk, Accepted}
 use Rattle.record.specs.Way.{Way, up, down, other, Past, past-trans, Order, before, same, after, order}
-use Rattle.record.specs.Sides.{Run, rest-of}
-use Rattle.record.specs.Runs.{Runs, runs-same, facing, Step, nothing-past, step-fresh, step-tells, reach-chained, one-way}
+use Rattle.record.specs.Sides.{Run, rest-of, Joined, apart, joined}
+use Rattle.record.specs.Runs.{Runs, runs-same, facing, ahead, Step, nothing-past, step-fresh, step-tells, reach-chained, one-way}
 use Rattle.record.specs.Decode.{bitsOf, turnOf, Sizes, sizesAhead, joinedSize, growSizes, sizesAfter, lowerSize, takeOut, runsBut, labelOf, decode}
 use Rattle.record.specs.NextTo.{Seen, NextTo, not-barred-next, next-not-barred}
 use Rattle.record.specs.Forward.{Takes, leave, take, rising-counts, falling-counts, triple-is, runsOf, Stage, stage-first, step-stage, seen-grown, stages, steps, no-run-left, ends}
@@ -123,6 +124,11 @@ module _ (t : ℕ → Triple) where
   unfolding sizesAfter labels total
   labels-after zero = refl
   labels-after (suc k) = grown-labels (t (suc (suc k))) (sizesAfter t k) ∙ ap suc (labels-after k)
+
+  -- a run has no more labels than there are positions
+  pub size-small : (k : ℕ) → sizesAfter t k .current ≤ suc k
+  unfolding labels
+  size-small k = omega (arith, labels-after k)
 
   sound : (k : ℕ) → Sound (sizesAfter t k)
   unfolding sizesAfter
@@ -232,6 +238,19 @@ module _ (t : ℕ → Triple) where
 
     step-at : (k : ℕ) → suc k ≤ m → let u = t (suc (suc k)) in Step (turnOf u) (bitsOf u) (f (suc (suc k))) (runsAt k) (runsAt (suc k))
     step-at k h = one-back k h (all-sized (m - suc k) (suc k) (omega arith)) .step
+
+    -- looking back, the label met a run: the one that was current
+    pub back-run : (k : ℕ) → suc k ≤ m → let u = t (suc (suc k)) in let back = other (turnOf u) in 1 ≤ bit (bitsOf u back) + length (runsBut t (suc m) (m - suc k) .stack back)
+    unfolding runsAt
+    back-run k h = let u = t (suc (suc k)) in go (turnOf u) (step-at k h .joins (other (turnOf u)))
+      where
+        first : {way : Way} {v end : ℕ} {b : Bool} {r : Run} {rs rest : List Run} → Joined way v b (r ∷ rs) end rest → 1 ≤ bit b + length rest
+        first (apart a) = omega arith
+        first (joined b) = omega arith
+
+        go : (turn : Way) {v end : ℕ} {b : Bool} {rest : List Run} → Joined (other turn) v b (ahead turn (runsAt k) (other turn)) end rest → 1 ≤ bit b + length rest
+        go up j = first j
+        go down j = first j
 
     -- ---- and forward again, with the labels
     first-stage : Stage f 0 (runsAt 0)

@@ -1,0 +1,83 @@
+-- The table of the walk in one line: of the runs that the new label meets below it and above it, those that it is joined to count no more.
+-- Where it lies above the current run, that run is one more below it; where it lies below, one more above it.
+use mathlib.Core.Bool.{Bool, true, false}
+use mathlib.Core.List.{List}
+use mathlib.Core.Logic.{_⊎_, inl, inr}
+use mathlib.Core.Path.{_≡_, refl, sym, ap, ap₂, _∙_}
+use Prim.Native.Nat.{ℕ, zero, suc, _+_, _-_, _*_, _≤_, _<_}
+use native.Mathlib.Omega.{arith}
+use native.Mathlib.Nat.{add-zero}
+use Rattle.bits.specs.Bit.{bit, bitAt, groupAt}
+use Rattle.record.specs.Triple.{Triple, triple}
+use Rattle.record.specs.Walk.{Counts, missing, counts, step, andThen, walk}
+use Rattle.record.specs.Way.{up, down}
+use Rattle.record.specs.Record.{tripleIn}
+use Rattle.record.specs.Decode.{bitsOf}
+use Rattle.reading.specs.declared.Turn.{Turn}
+use Rattle.reading.specs.Turn.{Says, tripleOf, risesBy, fallsBy}
+
+-- a body's group is its triple's number
+pub group-triple : (body : List ℕ) (k : ℕ) → tripleOf (groupAt body k) ≡ tripleIn body (suc (suc k))
+unfolding groupAt
+group-triple body k = go (bitAt body (3 * k)) (bitAt body (3 * k + 1)) (bitAt body (3 * k + 2))
+  where
+    go : (first second third : Bool) → tripleOf (4 * bit first + 2 * bit second + bit third) ≡ triple first second third
+    go false false false = refl
+    go false false true = refl
+    go false true false = refl
+    go false true true = refl
+    go true false false = refl
+    go true false true = refl
+    go true true false = refl
+    go true true true = refl
+
+pub step-goes : (t : Triple) (p q : ℕ) → bit (bitsOf t down) ≤ p + risesBy t → bit (bitsOf t up) ≤ q + fallsBy t
+    → step t p q ≡ counts (p + risesBy t - bit (bitsOf t down)) (q + fallsBy t - bit (bitsOf t up))
+unfolding step
+step-goes (triple false false false) p q a b = ap₂ counts (omega arith) (omega arith)
+step-goes (triple false true false) p q a b = ap₂ counts (omega arith) (omega arith)
+step-goes (triple true false false) p zero a b = absurd (omega arith)
+step-goes (triple true false false) p (suc q) a b = ap₂ counts (omega arith) (omega arith)
+step-goes (triple true true false) p zero a b = absurd (omega arith)
+step-goes (triple true true false) p (suc q) a b = ap₂ counts (omega arith) (omega arith)
+step-goes (triple false false true) p q a b = ap₂ counts (omega arith) (omega arith)
+step-goes (triple true false true) p q a b = ap₂ counts (omega arith) (omega arith)
+step-goes (triple false true true) zero q a b = absurd (omega arith)
+step-goes (triple false true true) (suc p) q a b = ap₂ counts (omega arith) (omega arith)
+step-goes (triple true true true) zero q a b = absurd (omega arith)
+step-goes (triple true true true) (suc p) q a b = ap₂ counts (omega arith) (omega arith)
+
+pub step-lacks : (t : Triple) (p q : ℕ) → (p + risesBy t < bit (bitsOf t down)) ⊎ (q + fallsBy t < bit (bitsOf t up)) → step t p q ≡ missing
+unfolding step
+step-lacks (triple false false false) p q h = absurd (elim h [ inl a ↦ omega arith | inr b ↦ omega arith ])
+step-lacks (triple false true false) p q h = absurd (elim h [ inl a ↦ omega arith | inr b ↦ omega arith ])
+step-lacks (triple true false false) p zero h = refl
+step-lacks (triple true false false) p (suc q) h = absurd (elim h [ inl a ↦ omega arith | inr b ↦ omega arith ])
+step-lacks (triple true true false) p zero h = refl
+step-lacks (triple true true false) p (suc q) h = absurd (elim h [ inl a ↦ omega arith | inr b ↦ omega arith ])
+step-lacks (triple false false true) p q h = absurd (elim h [ inl a ↦ omega arith | inr b ↦ omega arith ])
+step-lacks (triple true false true) p q h = absurd (elim h [ inl a ↦ omega arith | inr b ↦ omega arith ])
+step-lacks (triple false true true) zero q h = refl
+step-lacks (triple false true true) (suc p) q h = absurd (elim h [ inl a ↦ omega arith | inr b ↦ omega arith ])
+step-lacks (triple true true true) zero q h = refl
+step-lacks (triple true true true) (suc p) q h = absurd (elim h [ inl a ↦ omega arith | inr b ↦ omega arith ])
+
+-- a walk that lacks a run does so to its end
+pub missing-on : (t : ℕ → Triple) (k d : ℕ) → walk t k ≡ missing → walk t (k + d) ≡ missing
+unfolding walk
+missing-on t k zero e = ap (walk t) (add-zero k) ∙ e
+missing-on t k (suc d) e =
+    let s : k + suc d ≡ suc (k + d) = omega arith in
+    ap (walk t) s ∙ ap (λ (c : Counts). andThen c (step (t (suc (suc (k + d)))))) (missing-on t k d e)
+
+-- the number of other runs grows by at most one
+pub once-risen : (t : Triple) → risesBy t + fallsBy t ≡ 1
+once-risen (triple first second false) = refl
+once-risen (triple first second true) = refl
+
+-- what the code was told of a triple is at most 1
+pub rises-small : {t : Triple} {turn : Turn} → Says t turn → turn .rises ≤ 1
+rises-small {t} s = omega (arith, s .rises-is, once-risen t)
+
+pub falls-small : {t : Triple} {turn : Turn} → Says t turn → turn .falls ≤ 1
+falls-small {t} s = omega (arith, s .falls-is, once-risen t)

@@ -1,0 +1,4 @@
+-- Reading a record.
+pub mod Turn
+pub mod Passes
+pub mod Answer
