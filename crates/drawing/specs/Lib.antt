@@ -2,6 +2,8 @@
 pub mod Drawing
 pub mod Relation
 pub mod Touch
+-- What the code writes
+pub mod Corners
 -- Theorems, and what they rest on
 pub mod Nearest
 pub mod Squares

@@ -82,3 +82,21 @@ module _ {A : Type 0} (refuse : Refusal → A) (bytes : List ℕ) (good : A) whe
   readable-checked r =
       sym (if-neg (dec-no-kind bytes) (r .kind) _ _ ∙ if-neg (decLt (length (bodyOf bytes)) (bodyLength (kindOf bytes))) (r .long) _ _ ∙ if-neg (decLt (bodyLength (kindOf bytes)) (length (bodyOf bytes))) (r .short) _ _
       ∙ if-neg (dec-spare bytes) (r .spare) _ _ ∙ if-neg (dec-missing (endOf bytes)) (r .runs) _ _ ∙ if-neg (dec-several (endOf bytes)) (r .one-run) _ _)
+
+-- each record is refused with a cause, or read
+pub data Sorted (bytes : List ℕ) : Type 0 where
+  refused : {refusal : Refusal} → Refuses bytes refusal → Sorted bytes
+  read : Readable bytes → Sorted bytes
+
+pub sorted : (bytes : List ℕ) → Sorted bytes
+sorted bytes =
+    go (dec-no-kind bytes) (decLt (length (bodyOf bytes)) (bodyLength (kindOf bytes))) (decLt (bodyLength (kindOf bytes)) (length (bodyOf bytes))) (dec-spare bytes) (dec-missing (endOf bytes)) (dec-several (endOf bytes))
+  where
+    go : Dec (cause.NoKind bytes) → Dec (cause.ShortBody bytes) → Dec (cause.BytesAfter bytes) → Dec (cause.SpareBit bytes) → Dec (cause.Missing (endOf bytes)) → Dec (cause.Several (endOf bytes)) → Sorted bytes
+    go (yes a) b c d e f = refused (no-kind a)
+    go (no a) (yes b) c d e f = refused (short-body a b)
+    go (no a) (no b) (yes c) d e f = refused (bytes-after a b c)
+    go (no a) (no b) (no c) (yes d) e f = refused (spare-bit a b c d)
+    go (no a) (no b) (no c) (no d) (yes e) f = refused (missing-run a b c d e)
+    go (no a) (no b) (no c) (no d) (no e) (yes f) = refused (several-runs a b c d e f)
+    go (no a) (no b) (no c) (no d) (no e) (no f) = read (record { kind = a; long = b; short = c; spare = d; runs = e; one-run = f })

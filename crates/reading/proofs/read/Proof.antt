@@ -165,7 +165,7 @@ returns-8 c =
     (refused-checked Refused (bytes (f .before .before .before .before .before .before .before)) _ (missing-run (has-kind (f .before .before .before .before .before .before .before)) (not-short (f .before .before .before .before .before)) (not-long (f .before .before .before .before)) (no-spare (f .before .before)) (subst Missing (ap endCounts (sym (c .enum-told .given .1)) ∙ end-is f) tt)), tt)
 
 returns-9 : tie.Need-returns-9
-returns-9 c = let e = c .before .before .before in let o = e .before .before .before .before .before .before .before .before .before .before .before .before in (ap Read (kind-is o) ∙ readable-checked Refused (bytes o) (Read (kindOf (bytes o))) (readable e), labels-are (bytes o) _ (kind-is o) (body-is (bytes o)) (rw (c .backward .ensures .1) (o .before .wide .ensures .1)) (c .backward .ensures .0))
+returns-9 c = let e = c .before .before .before in let o = e .before .before .before .before .before .before .before .before .before .before .before .before in (ap Read (kind-is o) ∙ readable-checked Refused (bytes o) (Read (kindOf (bytes o))) (readable e), (o .before .wide .ensures .1, labels-are (bytes o) _ (kind-is o) (body-is (bytes o)) (rw (c .backward .ensures .1) (o .before .wide .ensures .1)) (c .backward .ensures .0)))
 
 pub read-spec : {M : Type 1} → statement M
 read-spec =

@@ -1,0 +1,130 @@
+-- What reading a record tells the two calls: the refusal is theirs too, or the labels are the record's.
+use mathlib.Core.Bool.{Bool}
+use mathlib.Core.List.{List, _++_}
+use mathlib.Core.Logic.{_≢_, _⊎_, inl, inr, ite, if-pos, if-neg}
+use mathlib.Core.Path.{_≡_, sym, ap, subst, _∙_}
+use Prim.Native.Nat.{ℕ, _≤_, _<_}
+use native.Mathlib.Decide.{decLt, ℕ-discrete}
+use native.Mathlib.Omega.{arith}
+use lib.ListN.{length, take, drop, length-take}
+use Rattle.finite.specs.Decide.{Tells, holds, tells-holds}
+use Rattle.record.specs.Labels.{labelAt}
+use Rattle.record.specs.Read.{kindOf, bodyOf, labelsOf}
+use Rattle.record.specs.Record.{tripleIn}
+use Rattle.record.specs.Backward.{length-decode}
+use Rattle.record.specs.Checked.{Readable, Refuses, checked, Sorted, refused, read, sorted, refused-checked, readable-checked}
+use Rattle.record.specs.declared.Refusal.{Refusal}
+use Rattle.record.specs.declared.Refusal.the-variants.{ShortOutput, PositionOutside, SamePosition}
+use Rattle.reading.specs.Answer.{readingOf, Reads}
+use Rattle.reading.specs.declared.Reading.{Reading}
+use Rattle.reading.specs.declared.Reading.the-variants as reading
+use Rattle.drawing.specs.Drawing.{roomAt}
+use Rattle.drawing.specs.Relation.{relationOf}
+use Rattle.drawing.specs.Touch.{Touch, dec-touch}
+use Rattle.drawing.specs.declared.Relation.{Relation}
+use Rattle.answers.specs.Answer.{Short, dec-short, recordAnswer, Outside, dec-outside, questionAnswer}
+use Rattle.answers.specs.declared.RecordAnswer.the-variants as recordIn
+use Rattle.answers.specs.declared.QuestionAnswer.the-variants as question
+
+abbrev Is-read : Reading → Type 0
+Is-read (reading.Read n) = Unit
+Is-read (reading.Refused refusal) = ⊥
+
+abbrev refusalOf : Reading → Refusal → Refusal
+refusalOf (reading.Read n) other = other
+refusalOf (reading.Refused refusal) other = refusal
+
+abbrev countOf : Reading → ℕ
+countOf (reading.Read n) = n
+countOf (reading.Refused refusal) = 0
+
+-- a record that is not read is refused by every call alike
+pub same-refusal : {A : Type 0} (refuse : Refusal → A) (bytes : List ℕ) (good : A) (refusal : Refusal) → reading.Refused refusal ≡ readingOf bytes → refuse refusal ≡ checked refuse bytes good
+same-refusal refuse bytes good refusal e = go (sorted bytes)
+  where
+    go : Sorted bytes → refuse refusal ≡ checked refuse bytes good
+    go (refused cause) = ap (λ (r : Reading). refuse (refusalOf r refusal)) (e ∙ sym (refused-checked reading.Refused bytes (reading.Read (kindOf bytes)) cause)) ∙ refused-checked refuse bytes good cause
+    go (read all) = absurd (subst Is-read (sym (e ∙ sym (readable-checked reading.Refused bytes (reading.Read (kindOf bytes)) all))) tt)
+
+-- the labels that were read
+pub record Given (bytes found : List ℕ) (n : ℕ) : Type 0 where
+  pub readable : Readable bytes
+  pub kind : n ≡ kindOf bytes
+  pub small : n ≤ 255
+  pub list : take n found ≡ labelsOf bytes
+  pub size : length (take n found) ≡ n
+  pub long : n ≤ length found
+
+length-labels : (bytes : List ℕ) → length (labelsOf bytes) ≡ kindOf bytes
+unfolding labelsOf
+length-labels bytes = length-decode (tripleIn (bodyOf bytes)) (kindOf bytes)
+
+pub given : (bytes found : List ℕ) (n : ℕ) → reading.Read n ≡ readingOf bytes → Reads (reading.Read n) bytes found → Given bytes found n
+given bytes found n e (small, list) = go (sorted bytes)
+  where
+    go : Sorted bytes → Given bytes found n
+    go (refused cause) = absurd (subst Is-read (e ∙ sym (refused-checked reading.Refused bytes (reading.Read (kindOf bytes)) cause)) tt)
+    go (read all) =
+        let kind : n ≡ kindOf bytes = ap countOf (e ∙ sym (readable-checked reading.Refused bytes (reading.Read (kindOf bytes)) all)) in
+        let size : length (take n found) ≡ n = ap length list ∙ length-labels bytes ∙ sym kind in
+        record { readable = all; kind = kind; small = small; list = list; size = size; long = omega (arith, size, length-take n found) }
+
+module _ {bytes found : List ℕ} {n : ℕ} (g : Given bytes found n) where
+  -- ---- the question's answers
+  module _ (first second : ℕ) where
+    abbrev f : ℕ → ℕ
+    f = labelAt (labelsOf bytes)
+
+    pub outside-answer : Outside first n ⊎ Outside second n → question.Refused PositionOutside ≡ questionAnswer bytes first second
+    outside-answer h =
+        sym (if-pos (dec-outside first second (kindOf bytes)) (subst (λ (m : ℕ). Outside first m ⊎ Outside second m) (g .kind) h) _ _)
+        ∙ readable-checked question.Refused bytes _ (g .readable)
+
+    module _ (inside : ¬ (Outside first n ⊎ Outside second n)) where
+      inside-kind : ¬ (Outside first (kindOf bytes) ⊎ Outside second (kindOf bytes))
+      inside-kind h = inside (subst (λ (m : ℕ). Outside first m ⊎ Outside second m) (sym (g .kind)) h)
+
+      pub same-answer : first ≡ second → question.Refused SamePosition ≡ questionAnswer bytes first second
+      same-answer e =
+          sym (if-neg (dec-outside first second (kindOf bytes)) inside-kind _ _ ∙ if-pos (ℕ-discrete first second) e _ _)
+          ∙ readable-checked question.Refused bytes _ (g .readable)
+
+      pub related-answer : first ≢ second → {relation : Relation} {touch : Bool} → relation ≡ relationOf (labelAt (take n found)) first second
+          → Tells touch (Touch (roomAt (labelAt (take n found)) (length (take n found)) first) (roomAt (labelAt (take n found)) (length (take n found)) second))
+          → question.Related relation touch ≡ questionAnswer bytes first second
+      related-answer differ {relation} {touch} related touches =
+          (λ i. question.Related (relation-is i) (touch-is i))
+          ∙ sym (if-neg (dec-outside first second (kindOf bytes)) inside-kind _ _ ∙ if-neg (ℕ-discrete first second) differ _ _)
+          ∙ readable-checked question.Refused bytes _ (g .readable)
+        where
+          relation-is : relation ≡ relationOf (labelAt (labelsOf bytes)) first second
+          relation-is = related ∙ ap (λ (labels : List ℕ). relationOf (labelAt labels) first second) (g .list)
+
+          touch-is : touch ≡ holds (dec-touch (roomAt f (kindOf bytes) first) (roomAt f (kindOf bytes) second))
+          touch-is =
+              sym (tells-holds (dec-touch (roomAt (labelAt (take n found)) (length (take n found)) first) (roomAt (labelAt (take n found)) (length (take n found)) second)) touch touches)
+              ∙ (λ i. holds (dec-touch (roomAt (labelAt (g .list i)) ((g .size ∙ g .kind) i) first) (roomAt (labelAt (g .list i)) ((g .size ∙ g .kind) i) second)))
+
+  -- ---- Record in's answers
+  module _ (labels left bottom right top : ℕ) where
+    pub short-answer : Short n labels left bottom right top → recordIn.Refused ShortOutput ≡ recordAnswer bytes labels left bottom right top
+    short-answer h =
+        sym (if-pos (dec-short (kindOf bytes) labels left bottom right top) (subst (λ (m : ℕ). Short m labels left bottom right top) (g .kind) h) _ _)
+        ∙ readable-checked recordIn.Refused bytes _ (g .readable)
+
+    pub read-answer : ¬ Short n labels left bottom right top → recordIn.Read n ≡ recordAnswer bytes labels left bottom right top
+    read-answer h =
+        ap recordIn.Read (g .kind)
+        ∙ sym (if-neg (dec-short (kindOf bytes) labels left bottom right top) (λ s. h (subst (λ (m : ℕ). Short m labels left bottom right top) (sym (g .kind)) s)) _ _)
+        ∙ readable-checked recordIn.Refused bytes _ (g .readable)
+
+    pub all-long : n ≤ labels → n ≤ left → n ≤ bottom → n ≤ right → n ≤ top → ¬ Short n labels left bottom right top
+    all-long a b c d e (inl h) = omega arith
+    all-long a b c d e (inr (inl h)) = omega arith
+    all-long a b c d e (inr (inr (inl h))) = omega arith
+    all-long a b c d e (inr (inr (inr (inl h)))) = omega arith
+    all-long a b c d e (inr (inr (inr (inr h)))) = omega arith
+
+  -- a part that is made of the labels, from the front of a slice
+  pub front : (part : List ℕ → List ℕ) (before : List ℕ) → part (take n found) ++ drop (length (take n found)) before ≡ part (labelsOf bytes) ++ drop n before
+  front part before = λ i. part (g .list i) ++ drop (g .size i) before

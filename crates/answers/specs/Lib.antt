@@ -1,0 +1,2 @@
+-- Record in and the question.
+pub mod Answer
