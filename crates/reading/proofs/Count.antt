@@ -1,9 +1,9 @@
 -- The forward pass: what it has after k turns, and what one more turn leaves.
-use mathlib.Core.Bool.{Bool, true, false}
-use mathlib.Core.List.{List, [], _∷_}
-use mathlib.Core.Logic.{_⊎_, inl, inr}
-use mathlib.Core.Path.{_≡_, refl, sym, ap, ap₂, subst, _∙_}
-use Prim.Native.Nat.{ℕ, zero, suc, _+_, _-_, _*_, _≤_, _<_}
+use mathlib.Core.Bool.{true, false}
+use mathlib.Core.List.{List, _∷_}
+use mathlib.Core.Logic.{inl, inr}
+use mathlib.Core.Path.{_≡_, refl, sym, ap, subst, _∙_}
+use Prim.Native.Nat.{ℕ, zero, suc, _+_, _*_, _≤_, _<_}
 use native.Mathlib.Omega.{arith}
 use native.Mathlib.Numerals.{add-one}
 use lib.ListN.{length, getD, set, length-set}
@@ -11,15 +11,15 @@ use lib.Seq.{getD-set-same, getD-set-other}
 use Rattle.bits.specs.Bit.{bit}
 use Rattle.finite.specs.Decide.{eq-or-ne}
 use Rattle.record.specs.Triple.{Triple, triple}
-use Rattle.record.specs.Walk.{Counts, missing, counts, step, andThen, walk}
-use Rattle.record.specs.Way.{Way, up, down}
+use Rattle.record.specs.Walk.{Counts, counts, step, andThen, walk}
+use Rattle.record.specs.Way.{up, down}
 use Rattle.record.specs.Sides.{rest-of}
 use Rattle.record.specs.Decode.{bitsOf, Sizes, sizesAhead, joinedSize, growSizes, sizesAfter, lowerSize}
 use Rattle.record.specs.Backward.{size-small}
 use Rattle.reading.specs.declared.Turn.{Turn}
 use Rattle.reading.specs.Turn.{Says, risesBy, fallsBy}
 use Rattle.reading.proofs.Stack.{stackOf, stack-pushed, joined-top, rest-stack}
-use Rattle.reading.proofs.Table.{step-goes, step-lacks, once-risen}
+use Rattle.reading.proofs.Table.{Meets, step-meets, once-risen}
 
 pub record Counted (t : ℕ → Triple) (k : ℕ) (lower below above : List ℕ) (runs-below runs-above size : ℕ) : Type 0 where
   pub walked : walk t k ≡ counts runs-below runs-above
@@ -85,14 +85,15 @@ module _ {t : ℕ → Triple} {k : ℕ} {lower below above : List ℕ} {p q size
       go (triple first second true) = (λ i. now .size-is i ∷ now .above-is i) ∙ sym (stack-pushed true above q size (omega (arith, now .few, now .room-above)))
       go (triple first second false) = now .above-is ∙ sym (stack-pushed false above q size (omega (arith, now .few, now .room-above)))
 
-  walk-next : walk t (suc k) ≡ step u p q
+  pub walk-next : walk t (k + 1) ≡ step u p q
   unfolding walk
-  walk-next = ap (λ (c : Counts). andThen c (step u)) (now .walked)
+  walk-next = ap (walk t) (add-one k) ∙ ap (λ (c : Counts). andThen c (step u)) (now .walked)
 
-  lacks-plain : (p + risesBy u < bit (bitsOf u down)) ⊎ (q + fallsBy u < bit (bitsOf u up)) → walk t (k + 1) ≡ missing
-  lacks-plain h = ap (walk t) (add-one k) ∙ walk-next ∙ step-lacks u p q h
+  -- where the table goes on
+  module _ {p-next q-next : ℕ} (goes : step u p q ≡ counts p-next q-next) where
+    meets : Meets u p q (counts p-next q-next)
+    meets = subst (Meets u p q) goes (step-meets u p q)
 
-  module _ (a : bit (bitsOf u down) ≤ p + risesBy u) (b : bit (bitsOf u up) ≤ q + fallsBy u) where
     abbrev labels-below : ℕ
     labels-below = bit (bitsOf u down) * getD below-next (p + risesBy u) 0
 
@@ -100,10 +101,10 @@ module _ {t : ℕ → Triple} {k : ℕ} {lower below above : List ℕ} {p q size
     labels-above = bit (bitsOf u up) * getD above-next (q + fallsBy u) 0
 
     lower-is : joinedSize (bitsOf u down) (sizesAhead u before down) ≡ labels-below
-    lower-is = ap (joinedSize (bitsOf u down)) meets-below ∙ joined-top (bitsOf u down) below-next (p + risesBy u) a
+    lower-is = ap (joinedSize (bitsOf u down)) meets-below ∙ joined-top (bitsOf u down) below-next (p + risesBy u) (omega (arith, meets .0))
 
     upper-is : joinedSize (bitsOf u up) (sizesAhead u before up) ≡ labels-above
-    upper-is = ap (joinedSize (bitsOf u up)) meets-above ∙ joined-top (bitsOf u up) above-next (q + fallsBy u) b
+    upper-is = ap (joinedSize (bitsOf u up)) meets-above ∙ joined-top (bitsOf u up) above-next (q + fallsBy u) (omega (arith, meets .1))
 
     size-next : sizesAfter t (suc k) .current ≡ 1 + labels-below + labels-above
     unfolding sizesAfter growSizes
@@ -112,14 +113,14 @@ module _ {t : ℕ → Triple} {k : ℕ} {lower below above : List ℕ} {p q size
     small-plain : 1 + labels-below + labels-above ≤ 255
     small-plain = omega (arith, size-next, size-small t (suc k))
 
-    turned-plain : Counted t (k + 1) (set lower (k + 1) labels-below) below-next above-next (p + risesBy u - bit (bitsOf u down)) (q + fallsBy u - bit (bitsOf u up)) (1 + labels-below + labels-above)
+    turned-plain : Counted t (k + 1) (set lower (k + 1) labels-below) below-next above-next p-next q-next (1 + labels-below + labels-above)
     unfolding sizesAfter growSizes lowerSize
-    turned-plain = subst (λ (j : ℕ). Counted t j (set lower (k + 1) labels-below) below-next above-next (p + risesBy u - bit (bitsOf u down)) (q + fallsBy u - bit (bitsOf u up)) (1 + labels-below + labels-above)) (sym (add-one k)) (record {
-      walked = walk-next ∙ step-goes u p q a b;
-      few = omega (arith, now .few, once-risen u);
+    turned-plain = subst (λ (j : ℕ). Counted t j (set lower (k + 1) labels-below) below-next above-next p-next q-next (1 + labels-below + labels-above)) (sym (add-one k)) (record {
+      walked = ap (walk t) (sym (add-one k)) ∙ walk-next ∙ goes;
+      few = omega (arith, now .few, once-risen u, meets .0, meets .1);
       size-is = size-next;
-      below-is = ap (rest-of (bitsOf u down)) meets-below ∙ rest-stack (bitsOf u down) below-next (p + risesBy u) a;
-      above-is = ap (rest-of (bitsOf u up)) meets-above ∙ rest-stack (bitsOf u up) above-next (q + fallsBy u) b;
+      below-is = ap (rest-of (bitsOf u down)) meets-below ∙ rest-stack (bitsOf u down) below-next (p + risesBy u) p-next (meets .0);
+      above-is = ap (rest-of (bitsOf u up)) meets-above ∙ rest-stack (bitsOf u up) above-next (q + fallsBy u) q-next (meets .1);
       lowers = lowers-next;
       room-lower = length-set lower (k + 1) labels-below ∙ now .room-lower;
       room-below = length-set below (p + 1) size ∙ now .room-below;
@@ -132,15 +133,12 @@ module _ {t : ℕ → Triple} {k : ℕ} {lower below above : List ℕ} {p q size
           | inr e ↦ getD-set-other lower (k + 1) i labels-below 0 e ∙ now .lowers i (omega arith)
         ]
 
-  -- ---- the same with what the code was told of the triple
-  module _ (turn : Turn) (says : Says u turn) where
-    pub lacks : (p + turn .rises < turn .below) ⊎ (q + turn .falls < turn .above) → walk t (k + 1) ≡ missing
-    lacks = subst (λ (w : Turn). (p + w .rises < w .below) ⊎ (q + w .falls < w .above) → walk t (k + 1) ≡ missing) (says-is says) lacks-plain
+    -- ---- the same with what the code was told of the triple
+    module _ (turn : Turn) (says : Says u turn) where
+      pub small : 1 + turn .below * getD below-next (p + turn .rises) 0 + turn .above * getD above-next (q + turn .falls) 0 ≤ 255
+      small = subst (λ (w : Turn). 1 + w .below * getD below-next (p + w .rises) 0 + w .above * getD above-next (q + w .falls) 0 ≤ 255) (says-is says) small-plain
 
-    pub small : turn .below ≤ p + turn .rises → turn .above ≤ q + turn .falls → 1 + turn .below * getD below-next (p + turn .rises) 0 + turn .above * getD above-next (q + turn .falls) 0 ≤ 255
-    small = subst (λ (w : Turn). w .below ≤ p + w .rises → w .above ≤ q + w .falls → 1 + w .below * getD below-next (p + w .rises) 0 + w .above * getD above-next (q + w .falls) 0 ≤ 255) (says-is says) small-plain
-
-    pub turned : turn .below ≤ p + turn .rises → turn .above ≤ q + turn .falls → Counted t (k + 1) (set lower (k + 1) (turn .below * getD below-next (p + turn .rises) 0)) below-next above-next
-        (p + turn .rises - turn .below) (q + turn .falls - turn .above) (1 + turn .below * getD below-next (p + turn .rises) 0 + turn .above * getD above-next (q + turn .falls) 0)
-    turned = subst (λ (w : Turn). w .below ≤ p + w .rises → w .above ≤ q + w .falls → Counted t (k + 1) (set lower (k + 1) (w .below * getD below-next (p + w .rises) 0)) below-next above-next
-        (p + w .rises - w .below) (q + w .falls - w .above) (1 + w .below * getD below-next (p + w .rises) 0 + w .above * getD above-next (q + w .falls) 0)) (says-is says) turned-plain
+      pub turned : Counted t (k + 1) (set lower (k + 1) (turn .below * getD below-next (p + turn .rises) 0)) below-next above-next p-next q-next
+          (1 + turn .below * getD below-next (p + turn .rises) 0 + turn .above * getD above-next (q + turn .falls) 0)
+      turned = subst (λ (w : Turn). Counted t (k + 1) (set lower (k + 1) (w .below * getD below-next (p + w .rises) 0)) below-next above-next p-next q-next
+          (1 + w .below * getD below-next (p + w .rises) 0 + w .above * getD above-next (q + w .falls) 0)) (says-is says) turned-plain

@@ -2,7 +2,7 @@
 use mathlib.Core.Bool.{Bool, true, false}
 use mathlib.Core.List.{List, [], _∷_}
 use mathlib.Core.Path.{_≡_, refl, sym, ap, _∙_}
-use Prim.Native.Nat.{ℕ, zero, suc, _+_, _-_, _*_, _≤_, _<_}
+use Prim.Native.Nat.{ℕ, zero, suc, _+_, _*_, _≤_, _<_}
 use native.Mathlib.Omega.{arith}
 use native.Mathlib.Nat.{add-zero}
 use native.Mathlib.Numerals.{add-one}
@@ -48,8 +48,8 @@ joined-top false s h l = omega arith
 joined-top true s zero l = absurd (omega arith)
 joined-top true s (suc h) l = omega arith
 
-pub rest-stack : (b : Bool) (s : List ℕ) (h : ℕ) → bit b ≤ h → rest-of b (stackOf s h) ≡ stackOf s (h - bit b)
+pub rest-stack : (b : Bool) (s : List ℕ) (h left : ℕ) → left + bit b ≡ h → rest-of b (stackOf s h) ≡ stackOf s left
 unfolding stackOf rest-of
-rest-stack false s h l = let e : h ≡ h - 0 = omega arith in ap (stackOf s) e
-rest-stack true s zero l = absurd (omega arith)
-rest-stack true s (suc h) l = let e : h ≡ suc h - 1 = omega arith in ap (stackOf s) e
+rest-stack false s h left e = let same : h ≡ left = omega arith in ap (stackOf s) same
+rest-stack true s zero left e = absurd (omega arith)
+rest-stack true s (suc h) left e = let same : h ≡ left = omega arith in ap (stackOf s) same

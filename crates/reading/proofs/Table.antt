@@ -2,9 +2,8 @@
 -- Where it lies above the current run, that run is one more below it; where it lies below, one more above it.
 use mathlib.Core.Bool.{Bool, true, false}
 use mathlib.Core.List.{List}
-use mathlib.Core.Logic.{_⊎_, inl, inr}
-use mathlib.Core.Path.{_≡_, refl, sym, ap, ap₂, _∙_}
-use Prim.Native.Nat.{ℕ, zero, suc, _+_, _-_, _*_, _≤_, _<_}
+use mathlib.Core.Path.{_≡_, refl, ap, _∙_}
+use Prim.Native.Nat.{ℕ, zero, suc, _+_, _*_, _≤_}
 use native.Mathlib.Omega.{arith}
 use native.Mathlib.Nat.{add-zero}
 use Rattle.bits.specs.Bit.{bit, bitAt, groupAt}
@@ -31,36 +30,25 @@ group-triple body k = go (bitAt body (3 * k)) (bitAt body (3 * k + 1)) (bitAt bo
     go true true false = refl
     go true true true = refl
 
-pub step-goes : (t : Triple) (p q : ℕ) → bit (bitsOf t down) ≤ p + risesBy t → bit (bitsOf t up) ≤ q + fallsBy t
-    → step t p q ≡ counts (p + risesBy t - bit (bitsOf t down)) (q + fallsBy t - bit (bitsOf t up))
-unfolding step
-step-goes (triple false false false) p q a b = ap₂ counts (omega arith) (omega arith)
-step-goes (triple false true false) p q a b = ap₂ counts (omega arith) (omega arith)
-step-goes (triple true false false) p zero a b = absurd (omega arith)
-step-goes (triple true false false) p (suc q) a b = ap₂ counts (omega arith) (omega arith)
-step-goes (triple true true false) p zero a b = absurd (omega arith)
-step-goes (triple true true false) p (suc q) a b = ap₂ counts (omega arith) (omega arith)
-step-goes (triple false false true) p q a b = ap₂ counts (omega arith) (omega arith)
-step-goes (triple true false true) p q a b = ap₂ counts (omega arith) (omega arith)
-step-goes (triple false true true) zero q a b = absurd (omega arith)
-step-goes (triple false true true) (suc p) q a b = ap₂ counts (omega arith) (omega arith)
-step-goes (triple true true true) zero q a b = absurd (omega arith)
-step-goes (triple true true true) (suc p) q a b = ap₂ counts (omega arith) (omega arith)
+-- what the counts after a step from p and q have to do with those before it, where no run is missing
+abbrev pub Meets : Triple → (p q : ℕ) → Counts → Type 0
+Meets t p q missing = Unit
+Meets t p q (counts p-next q-next) = (p-next + bit (bitsOf t down) ≡ p + risesBy t) × (q-next + bit (bitsOf t up) ≡ q + fallsBy t)
 
-pub step-lacks : (t : Triple) (p q : ℕ) → (p + risesBy t < bit (bitsOf t down)) ⊎ (q + fallsBy t < bit (bitsOf t up)) → step t p q ≡ missing
+pub step-meets : (t : Triple) (p q : ℕ) → Meets t p q (step t p q)
 unfolding step
-step-lacks (triple false false false) p q h = absurd (elim h [ inl a ↦ omega arith | inr b ↦ omega arith ])
-step-lacks (triple false true false) p q h = absurd (elim h [ inl a ↦ omega arith | inr b ↦ omega arith ])
-step-lacks (triple true false false) p zero h = refl
-step-lacks (triple true false false) p (suc q) h = absurd (elim h [ inl a ↦ omega arith | inr b ↦ omega arith ])
-step-lacks (triple true true false) p zero h = refl
-step-lacks (triple true true false) p (suc q) h = absurd (elim h [ inl a ↦ omega arith | inr b ↦ omega arith ])
-step-lacks (triple false false true) p q h = absurd (elim h [ inl a ↦ omega arith | inr b ↦ omega arith ])
-step-lacks (triple true false true) p q h = absurd (elim h [ inl a ↦ omega arith | inr b ↦ omega arith ])
-step-lacks (triple false true true) zero q h = refl
-step-lacks (triple false true true) (suc p) q h = absurd (elim h [ inl a ↦ omega arith | inr b ↦ omega arith ])
-step-lacks (triple true true true) zero q h = refl
-step-lacks (triple true true true) (suc p) q h = absurd (elim h [ inl a ↦ omega arith | inr b ↦ omega arith ])
+step-meets (triple false false false) p q = (omega arith, omega arith)
+step-meets (triple false true false) p q = (omega arith, omega arith)
+step-meets (triple true false false) p zero = tt
+step-meets (triple true false false) p (suc q) = (omega arith, omega arith)
+step-meets (triple true true false) p zero = tt
+step-meets (triple true true false) p (suc q) = (omega arith, omega arith)
+step-meets (triple false false true) p q = (omega arith, omega arith)
+step-meets (triple true false true) p q = (omega arith, omega arith)
+step-meets (triple false true true) zero q = tt
+step-meets (triple false true true) (suc p) q = (omega arith, omega arith)
+step-meets (triple true true true) zero q = tt
+step-meets (triple true true true) (suc p) q = (omega arith, omega arith)
 
 -- a walk that lacks a run does so to its end
 pub missing-on : (t : ℕ → Triple) (k d : ℕ) → walk t k ≡ missing → walk t (k + d) ≡ missing

@@ -6,7 +6,7 @@ ghost use lib.ListN.{length};
 ghost use Rattle.finite.specs.Decide.{Tells};
 ghost use Rattle.finite.specs.Search.{Some};
 ghost use Rattle.bits.specs.Bit.{bitAt};
-ghost use Rattle.record.specs.Walk.{walk, Accepted};
+ghost use Rattle.record.specs.Walk.{step as tableStep, walk, Accepted};
 ghost use Rattle.record.specs.Record.{bodyLength, tripleIn};
 ghost use Rattle.reading.specs.Turn.{Says, tripleOf};
 ghost use Rattle.reading.specs.Answer.{readingOf, Reads};
@@ -28,72 +28,62 @@ struct Turn {
     falls: u8,
 }
 
-// The eight triples, by number: the first bit is worth 4.
+// A triple's three bits, of which the first is worth 4, taken apart.
 fn turn_of(triple: u8) -> Turn
     requires { ⌜ triple < 8 ⌝ }
     ensures { λ r. ⌜ Says (tripleOf triple) r ⌝ }
 {
+    let falls = triple & 1;
+    Turn {
+        above: triple >> 2,
+        below: (triple >> 1) & 1,
+        rises: 1 - falls,
+        falls,
+    }
+}
+
+// How many runs lie below the current one and how many above it; or a triple needs a run that is missing.
+enum RunCounts {
+    Counted(usize, usize),
+    Missing,
+}
+
+// The eight steps, by the triple's number: the next pair of run counts, or the run that the triple needs is missing.
+fn step(triple: u8, below: usize, above: usize) -> RunCounts
+    requires { ⌜ (triple < 8) × (below ≤ 255) × (above ≤ 255) ⌝ }
+    ensures { λ r. ⌜ endCounts r ≡ tableStep (tripleOf triple) below above ⌝ }
+{
     match triple {
-        0 => Turn {
-            above: 0,
-            below: 0,
-            rises: 1,
-            falls: 0,
+        0 => RunCounts::Counted(below + 1, above),
+        1 => RunCounts::Counted(below, above + 1),
+        2 => RunCounts::Counted(below, above),
+        3 => if below == 0 {
+            RunCounts::Missing
+        } else {
+            RunCounts::Counted(below - 1, above + 1)
         },
-        1 => Turn {
-            above: 0,
-            below: 0,
-            rises: 0,
-            falls: 1,
+        4 => if above == 0 {
+            RunCounts::Missing
+        } else {
+            RunCounts::Counted(below + 1, above - 1)
         },
-        2 => Turn {
-            above: 0,
-            below: 1,
-            rises: 1,
-            falls: 0,
+        5 => RunCounts::Counted(below, above),
+        6 => if above == 0 {
+            RunCounts::Missing
+        } else {
+            RunCounts::Counted(below, above - 1)
         },
-        3 => Turn {
-            above: 0,
-            below: 1,
-            rises: 0,
-            falls: 1,
-        },
-        4 => Turn {
-            above: 1,
-            below: 0,
-            rises: 1,
-            falls: 0,
-        },
-        5 => Turn {
-            above: 1,
-            below: 0,
-            rises: 0,
-            falls: 1,
-        },
-        6 => Turn {
-            above: 1,
-            below: 1,
-            rises: 1,
-            falls: 0,
-        },
-        _ => Turn {
-            above: 1,
-            below: 1,
-            rises: 0,
-            falls: 1,
+        _ => if below == 0 {
+            RunCounts::Missing
+        } else {
+            RunCounts::Counted(below - 1, above)
         },
     }
 }
 
-// How a walk ends: with so many runs below and above the current one, or at a triple that needs a run that is missing.
-enum Walked {
-    Ended(usize, usize),
-    Missing,
-}
-
 // The walk, with the size of each run: a stack of sizes for the runs below and one for those above, the nearest run's on top. Each turn pushes the
 // current size on both; the counts of runs say how much of a stack is in use. Of each position, how many labels of its run lie below it is noted.
-fn forward(body: &[u8], n: usize, lower: &mut [u8; 255]) -> Walked
+fn forward(body: &[u8], n: usize, lower: &mut [u8; 255]) -> RunCounts
     requires { ⌜ (1 ≤ n) × (n ≤ 255) × (length (now body) ≡ bodyLength n) ⌝ ∗ ⌜ length (now lower) ≡ 255 ⌝ }
     ensures { λ r. ⌜ (endCounts r ≡ walk (tripleIn (now (body .entry))) (n - 1)) × Noted r (tripleIn (now (body .entry))) n (now (lower .exit)) ⌝ }
 {
@@ -105,25 +95,21 @@ fn forward(body: &[u8], n: usize, lower: &mut [u8; 255]) -> Walked
     lower[0] = 0;
     let mut k = 0;
     while k + 1 < n {
-        let turn = turn_of(bits::group(body, k));
+        let triple = bits::group(body, k);
+        let RunCounts::Counted(next_below, next_above) = step(triple, runs_below, runs_above) else {
+            return RunCounts::Missing;
+        };
+        let turn = turn_of(triple);
         below[runs_below + 1] = size;
         above[runs_above + 1] = size;
-        let under = runs_below + turn.rises as usize;
-        let over = runs_above + turn.falls as usize;
-        if under < turn.below as usize {
-            return Walked::Missing;
-        }
-        if over < turn.above as usize {
-            return Walked::Missing;
-        }
-        let labels_below = turn.below * below[under];
-        size = 1 + labels_below + turn.above * above[over];
-        runs_below = under - turn.below as usize;
-        runs_above = over - turn.above as usize;
+        let labels_below = turn.below * below[runs_below + turn.rises as usize];
+        size = 1 + labels_below + turn.above * above[runs_above + turn.falls as usize];
+        runs_below = next_below;
+        runs_above = next_above;
         lower[k + 1] = labels_below;
         k += 1;
     }
-    Walked::Ended(runs_below, runs_above)
+    RunCounts::Counted(runs_below, runs_above)
 }
 
 // The labels from the end, where all are one run: the newest label is taken out of the current run. Of each run below, the stack has the lowest label,
@@ -202,8 +188,8 @@ pub fn read(record: &[u8], labels: &mut [u8; 255]) -> Reading
     }
     let mut lower = [0u8; 255];
     match forward(body, n, &mut lower) {
-        Walked::Missing => Reading::Refused(Refusal::MissingRun),
-        Walked::Ended(below, above) => {
+        RunCounts::Missing => Reading::Refused(Refusal::MissingRun),
+        RunCounts::Counted(below, above) => {
             if below != 0 {
                 return Reading::Refused(Refusal::SeveralRuns);
             }

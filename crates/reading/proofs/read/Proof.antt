@@ -19,7 +19,7 @@ use Rattle.record.specs.Checked.{Readable, no-kind, short-body, bytes-after, sp
 use Rattle.record.specs.declared.Refusal.the-variants.{SeveralRuns}
 use Rattle.reading.specs.Answer.{readingOf}
 use Rattle.reading.specs.Passes.{endCounts, Noted, Labelled}
-use Rattle.reading.specs.declared.Walked.{Walked}
+use Rattle.reading.specs.declared.RunCounts.{RunCounts}
 use Rattle.reading.specs.declared.Reading.the-variants.{Read, Refused}
 use Rattle.reading.proofs.Taken.{labelled-taken}
 use borrow.Author.Needs.{needs}
@@ -157,7 +157,7 @@ backward-requires c κs =
     let accepted = sym (f .forward .ensures .0) ∙ ap endCounts (k .before .below .given .1) ∙ zero in
     let t = tripleIn (take (length (bytes o) - 1) (drop 1 (bytes o))) in
     let n = o .before .wide .result in
-    ((omega (arith, o .if2 .left), o .before .wide .ensures .1, le-antisymm (k .before .before .before .before .before .before .before .if4 .left) (k .before .before .before .before .before .before .before .before .if3 .left), accepted), (subst (λ (r : Walked). Noted r t n (f .forward .last .1 .1 .0)) (k .before .below .given .1) (f .forward .ensures .1), o .before .before .before .before .before .pre))
+    ((omega (arith, o .if2 .left), o .before .wide .ensures .1, le-antisymm (k .before .before .before .before .before .before .before .if4 .left) (k .before .before .before .before .before .before .before .before .if3 .left), accepted), (subst (λ (r : RunCounts). Noted r t n (f .forward .last .1 .1 .0)) (k .before .below .given .1) (f .forward .ensures .1), o .before .before .before .before .before .pre))
 
 returns-8 : tie.Need-returns-8
 returns-8 c =
