@@ -2,7 +2,7 @@
 use mathlib.Core.List.{List, _++_}
 use mathlib.Core.Logic.{_⊎_, ite}
 use mathlib.Core.Path.{_≡_}
-use Prim.Native.Nat.{ℕ, _<_}
+use Prim.Native.Nat.{ℕ, _≤_, _<_}
 use native.Mathlib.Decide.{decLt, ℕ-discrete}
 use lib.ListN.{drop}
 use Rattle.finite.specs.Decide.{holds, dec-⊎}
@@ -30,6 +30,11 @@ dec-short n labels left bottom right top = dec-⊎ (decLt labels n) (dec-⊎ (de
 -- the answer for a record and output slices of so many places
 abbrev pub recordAnswer : List ℕ → (labels left bottom right top : ℕ) → RecordAnswer
 recordAnswer bytes labels left bottom right top = checked Refused bytes (ite (dec-short (kindOf bytes) labels left bottom right top) (Refused ShortOutput) (Read (kindOf bytes)))
+
+-- a record has at most 255 rooms
+abbrev pub Few : RecordAnswer → Type 0
+Few (Read n) = n ≤ 255
+Few (Refused refusal) = Unit
 
 -- an output slice after the answer, where it held `before`: "labels and rooms by position" from the front and "the excess is untouched", or all as it was
 abbrev pub written : RecordAnswer → (result before : List ℕ) → List ℕ

@@ -6,7 +6,7 @@ ghost use lib.ListN.{length, drop};
 ghost use Rattle.finite.specs.Decide.{Tells};
 ghost use Rattle.record.specs.Read.{labelsOf};
 ghost use Rattle.drawing.specs.Corners.{leftsOf, bottomsOf, rightsOf, topsOf};
-ghost use Rattle.answers.specs.Answer.{recordAnswer, written, questionAnswer, Outside};
+ghost use Rattle.answers.specs.Answer.{recordAnswer, Few, written, questionAnswer, Outside};
 use drawing::Relation;
 use reading::Reading;
 use record::Position;
@@ -46,7 +46,7 @@ pub fn record_in(
     right: &mut [u16],
     top: &mut [u16],
 ) -> RecordAnswer
-    ensures answer { λ r. ⌜ r ≡ recordAnswer (now («record» .entry)) (length (now (labels .entry))) (length (now (left .entry))) (length (now (bottom .entry))) (length (now (right .entry))) (length (now (top .entry))) ⌝ }
+    ensures answer { λ r. ⌜ (r ≡ recordAnswer (now («record» .entry)) (length (now (labels .entry))) (length (now (left .entry))) (length (now (bottom .entry))) (length (now (right .entry))) (length (now (top .entry)))) × Few r ⌝ }
     ensures list { λ r. ⌜ now (labels .exit) ≡ written r (labelsOf (now («record» .entry))) (now (labels .entry)) ⌝ }
     ensures lefts { λ r. ⌜ now (left .exit) ≡ written r (leftsOf (labelsOf (now («record» .entry)))) (now (left .entry)) ⌝ }
     ensures bottoms { λ r. ⌜ now (bottom .exit) ≡ written r (bottomsOf (labelsOf (now («record» .entry)))) (now (bottom .entry)) ⌝ }

@@ -1,8 +1,15 @@
 // The C interface: the public calls as exported functions, and nothing else. A slice is a pointer and its length.
 ghost use mathlib.Core.Path.{_≡_};
+ghost use Prim.Native.Nat.{_≤_};
 ghost use lib.ListN.{length};
 ghost use Rattle.record.specs.Answer.{labelsAnswer, recordAfter};
-ghost use Rattle.nenturxo.specs.Code.{refusalCode, labelsCode};
+ghost use Rattle.record.specs.Read.{labelsOf};
+ghost use Rattle.drawing.specs.Corners.{leftsOf, bottomsOf, rightsOf, topsOf};
+ghost use Rattle.answers.specs.Answer.{recordAnswer, written, questionAnswer};
+ghost use Rattle.nenturxo.specs.Code.{refusalCode, labelsCode, recordCode, relationNumber, relatedNumber, questionCode};
+use answers::QuestionAnswer;
+use answers::RecordAnswer;
+use drawing::Relation;
 use record::LabelsAnswer;
 use record::Refusal;
 
@@ -22,5 +29,62 @@ pub extern "C" fn nenturxo_labels_in(labels: &[u8], record: &mut [u8]) -> i32
     match labels::labels_in(labels, record) {
         LabelsAnswer::Wrote(size) => size as i32,
         LabelsAnswer::Refused(refusal) => refused(refusal),
+    }
+}
+
+// Record in: the number of rooms, their labels and corners by position from the front of the slices, or the refusal's number negated, and nothing written.
+#[no_mangle]
+pub extern "C" fn nenturxo_record_in(
+    record: &[u8],
+    labels: &mut [u8],
+    left: &mut [u16],
+    bottom: &mut [u16],
+    right: &mut [u16],
+    top: &mut [u16],
+) -> i32
+    ensures answer { λ r. ⌜ r ≡ recordCode (recordAnswer (now («record» .entry)) (length (now (labels .entry))) (length (now (left .entry))) (length (now (bottom .entry))) (length (now (right .entry))) (length (now (top .entry)))) ⌝ }
+    ensures list { λ r. ⌜ now (labels .exit) ≡ written (recordAnswer (now («record» .entry)) (length (now (labels .entry))) (length (now (left .entry))) (length (now (bottom .entry))) (length (now (right .entry))) (length (now (top .entry)))) (labelsOf (now («record» .entry))) (now (labels .entry)) ⌝ }
+    ensures lefts { λ r. ⌜ now (left .exit) ≡ written (recordAnswer (now («record» .entry)) (length (now (labels .entry))) (length (now (left .entry))) (length (now (bottom .entry))) (length (now (right .entry))) (length (now (top .entry)))) (leftsOf (labelsOf (now («record» .entry)))) (now (left .entry)) ⌝ }
+    ensures bottoms { λ r. ⌜ now (bottom .exit) ≡ written (recordAnswer (now («record» .entry)) (length (now (labels .entry))) (length (now (left .entry))) (length (now (bottom .entry))) (length (now (right .entry))) (length (now (top .entry)))) (bottomsOf (labelsOf (now («record» .entry)))) (now (bottom .entry)) ⌝ }
+    ensures rights { λ r. ⌜ now (right .exit) ≡ written (recordAnswer (now («record» .entry)) (length (now (labels .entry))) (length (now (left .entry))) (length (now (bottom .entry))) (length (now (right .entry))) (length (now (top .entry)))) (rightsOf (labelsOf (now («record» .entry)))) (now (right .entry)) ⌝ }
+    ensures tops { λ r. ⌜ now (top .exit) ≡ written (recordAnswer (now («record» .entry)) (length (now (labels .entry))) (length (now (left .entry))) (length (now (bottom .entry))) (length (now (right .entry))) (length (now (top .entry)))) (topsOf (labelsOf (now («record» .entry)))) (now (top .entry)) ⌝ }
+{
+    match answers::record_in(record, labels, left, bottom, right, top) {
+        RecordAnswer::Read(n) => n as i32,
+        RecordAnswer::Refused(refusal) => refused(refusal),
+    }
+}
+
+// A relation's number.
+fn relation_number(relation: Relation) -> u8
+    ensures { λ r. ⌜ (r ≡ relationNumber relation) × (r ≤ 3) ⌝ }
+{
+    match relation {
+        Relation::Left => 0,
+        Relation::Right => 1,
+        Relation::Above => 2,
+        Relation::Below => 3,
+    }
+}
+
+// The number of a relation and a touch.
+fn related_number(relation: Relation, touch: bool) -> u8
+    ensures { λ r. ⌜ (r ≡ relatedNumber relation touch) × (r ≤ 7) ⌝ }
+{
+    let number = relation_number(relation);
+    if touch {
+        return 4 + number;
+    }
+    number
+}
+
+// The question: the relation's number, 4 more where the two touch, or the refusal's number negated.
+#[no_mangle]
+pub extern "C" fn nenturxo_question(record: &[u8], first: u8, second: u8) -> i32
+    ensures { λ r. ⌜ r ≡ questionCode (questionAnswer (now («record» .entry)) first second) ⌝ }
+{
+    match answers::question(record, first, second) {
+        QuestionAnswer::Related(relation, touch) => related_number(relation, touch) as i32,
+        QuestionAnswer::Refused(refusal) => refused(refusal),
     }
 }

@@ -44,19 +44,19 @@ enum-known-n : tie.Need-enum-known-n
 enum-known-n c = search needs
 
 returns : tie.Need-returns
-returns c = (short (c .before) (inl (c .if1 .taken)), (refl, (refl, (refl, (refl, refl)))))
+returns c = ((short (c .before) (inl (c .if1 .taken)), tt), (refl, (refl, (refl, (refl, refl)))))
 
 returns-2 : tie.Need-returns-2
-returns-2 c = (short (c .before .before) (inr (inl (c .if2 .taken))), (refl, (refl, (refl, (refl, refl)))))
+returns-2 c = ((short (c .before .before) (inr (inl (c .if2 .taken))), tt), (refl, (refl, (refl, (refl, refl)))))
 
 returns-3 : tie.Need-returns-3
-returns-3 c = (short (c .before .before .before) (inr (inr (inl (c .if3 .taken)))), (refl, (refl, (refl, (refl, refl)))))
+returns-3 c = ((short (c .before .before .before) (inr (inr (inl (c .if3 .taken)))), tt), (refl, (refl, (refl, (refl, refl)))))
 
 returns-4 : tie.Need-returns-4
-returns-4 c = (short (c .before .before .before .before) (inr (inr (inr (inl (c .if4 .taken))))), (refl, (refl, (refl, (refl, refl)))))
+returns-4 c = ((short (c .before .before .before .before) (inr (inr (inr (inl (c .if4 .taken))))), tt), (refl, (refl, (refl, (refl, refl)))))
 
 returns-5 : tie.Need-returns-5
-returns-5 c = (short (c .before .before .before .before .before) (inr (inr (inr (inr (c .if5 .taken))))), (refl, (refl, (refl, (refl, refl)))))
+returns-5 c = ((short (c .before .before .before .before .before) (inr (inr (inr (inr (c .if5 .taken))))), tt), (refl, (refl, (refl, (refl, refl)))))
 
 array-share-prefix-found : tie.Need-array-share-prefix-found
 array-share-prefix-found c = got (c .before .before .before .before .before) .long
@@ -73,7 +73,7 @@ draw-requires c κs = let e = c .before .before .before .before .before .before 
 returns-6 : tie.Need-returns-6
 returns-6 c =
     let r = c .before .before .before in
-    (same-refusal Refused (r .before .before .before .before .before .before .before .before .args .«record» .now) _ (c .before .refusal .given .0 .0) (sym (c .before .refusal .given .1) ∙ r .read .ensures .0), (refl, (refl, (refl, (refl, refl)))))
+    ((same-refusal Refused (r .before .before .before .before .before .before .before .before .args .«record» .now) _ (c .before .refusal .given .0 .0) (sym (c .before .refusal .given .1) ∙ r .read .ensures .0), tt), (refl, (refl, (refl, (refl, refl)))))
 
 same-length : tie.Need-same-length
 same-length c = search needs
@@ -97,8 +97,11 @@ returns-7 c =
     let a = k .before .before .before .before .before .before .before .before .before .before .before .args in
     let g = got k in
     let drawn = c .before .before .before .before .before .before .before .before .draw .ensures in (
-      read-answer g (length (a .labels .now)) (length (a .left .now)) (length (a .bottom .now)) (length (a .right .now)) (length (a .top .now))
-          (all-long g (length (a .labels .now)) (length (a .left .now)) (length (a .bottom .now)) (length (a .right .now)) (length (a .top .now)) (e .before .before .before .before .if1 .left) (e .before .before .before .if2 .left) (e .before .before .if3 .left) (e .before .if4 .left) (e .if5 .left)),
+      (
+        read-answer g (length (a .labels .now)) (length (a .left .now)) (length (a .bottom .now)) (length (a .right .now)) (length (a .top .now))
+            (all-long g (length (a .labels .now)) (length (a .left .now)) (length (a .bottom .now)) (length (a .right .now)) (length (a .top .now)) (e .before .before .before .before .if1 .left) (e .before .before .before .if2 .left) (e .before .before .if3 .left) (e .before .if4 .left) (e .if5 .left)),
+        g .small,
+      ),
       (
         c .before .before .before .before .before .before .before .before .before .before .before .before .before .before .before .put-front .ensures ∙ front g (λ labels. labels) (a .labels .now),
         (

@@ -1,0 +1,58 @@
+-- `nenturxo::nenturxo_question` meets its contract: the answer of the question, as a number.
+use mathlib.Core.Path.{sym, ap, _∙_}
+use native.Mathlib.Omega.{arith}
+use lib.IntN.{ℤ, pos}
+use mir.Syntax.{w32}
+use mir.Val.{toZ, ofZ}
+use mir.ValLaws.{toZ-ofZ}
+use Rattle.nenturxo.specs.Code.{refusalCode, questionCode}
+use Rattle.nenturxo.proofs.Signed.{small-is, refused-fits}
+use borrow.Author.Needs.{needs}
+use Rattle.nenturxo.proofs.nenturxo_question.Statement.{statement}
+use Rattle.nenturxo.proofs.nenturxo_question.Tie as tie
+use Rattle.nenturxo.proofs.nenturxo_question.Reads as reads
+use Rattle.nenturxo.proofs.nenturxo_question.Lts as lts
+use Rattle.answers.proofs.question.Reads as question-reads
+use Rattle.nenturxo.proofs.refused.Reads as refused-reads
+use Rattle.nenturxo.proofs.related_number.Reads as related-number-reads
+
+question-requires : tie.Need-question-requires
+question-requires c κs = search needs
+
+enum-known-relation : tie.Need-enum-known-relation
+enum-known-relation c = search needs
+
+related-number-requires : tie.Need-related-number-requires
+related-number-requires c κs = search needs
+
+cast-result : tie.Need-cast-result
+cast-result c = search needs
+
+enum-known-refusal : tie.Need-enum-known-refusal
+enum-known-refusal c = search needs
+
+refused-requires : tie.Need-refused-requires
+refused-requires c κs = search needs
+
+returns : tie.Need-returns
+returns c =
+    let told = c .related-number in
+    small-is (told .result) (omega (arith, told .ensures .1)) ∙ ap pos (told .ensures .0) ∙ ap questionCode (sym (c .before .before .relation .given .1) ∙ c .before .before .before .before .question .ensures)
+
+returns-2 : tie.Need-returns-2
+returns-2 c =
+    let refusal = c .before .before .refusal .given .0 .0 in
+    ap (λ (z : ℤ). toZ w32 (ofZ w32 z)) (c .refused .ensures) ∙ toZ-ofZ w32 (refusalCode refusal) (refused-fits refusal) ∙ ap questionCode (sym (c .before .before .refusal .given .1) ∙ c .before .before .before .before .question .ensures)
+
+pub nenturxo-question-spec : {M : Type 1} → statement M
+nenturxo-question-spec =
+    tie.close
+    (tie.spec
+    question-requires
+    enum-known-relation
+    related-number-requires
+    cast-result
+    enum-known-refusal
+    refused-requires
+    returns
+    returns-2)
