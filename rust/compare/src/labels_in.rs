@@ -1,31 +1,9 @@
 //! The comparison of one case of "Labels in".
 
+use crate::lent::{hex, Input, Output, Surroundings, SURROUNDINGS};
 use crate::tally::Tally;
 use reference::Refusal;
 use std::fmt;
-
-/// What stands in and around the lent slices before a call.
-#[derive(Clone, Copy)]
-struct Surroundings {
-    /// The value of every byte that is no label.
-    fill: u8,
-    /// How many bytes stand before each slice, and again after it.
-    margin: usize,
-}
-
-/// Each case is run in both. They have no byte in common, so nothing that is
-/// written can hide behind a byte that was there before, and an answer that
-/// heeds bytes around the slices shows. The slices are aligned differently.
-const SURROUNDINGS: [Surroundings; 2] = [
-    Surroundings {
-        fill: 0xa5,
-        margin: 24,
-    },
-    Surroundings {
-        fill: 0x5a,
-        margin: 29,
-    },
-];
 
 impl Tally {
     /// Hands `labels` and a record slice of `capacity` bytes to the library,
@@ -78,50 +56,34 @@ impl Tally {
 }
 
 /// One version's answer to a case: what it returned, a refusal as its number,
-/// and all bytes of the buffer that the record slice is a part of.
+/// and the record slice after it.
 #[derive(PartialEq, Eq)]
 struct Outcome {
     returned: Result<usize, u32>,
-    before: Vec<u8>,
-    slice: Vec<u8>,
-    after: Vec<u8>,
+    record: Output<u8>,
 }
 
 impl Outcome {
-    /// Runs `call` on slices that are the middle parts of larger buffers.
+    /// Runs `call` on lent slices.
     fn of(
         labels: &[u8],
         capacity: usize,
         around: Surroundings,
         call: impl FnOnce(&[u8], &mut [u8]) -> Result<usize, u32>,
     ) -> Self {
-        let margin = vec![around.fill; around.margin];
-        let lent = [&margin, labels, &margin].concat();
-        let mut buffer = vec![around.fill; around.margin + capacity + around.margin];
-        let returned = call(
-            &lent[around.margin..][..labels.len()],
-            &mut buffer[around.margin..][..capacity],
-        );
+        let lent = Input::new(labels, around);
+        let mut record = Output::new(capacity, around);
+        let returned = call(lent.slice(), record.slice());
         assert!(
-            lent == [&margin, labels, &margin].concat(),
+            lent.is_still(labels),
             "the call with labels {labels:?} and capacity {capacity} wrote where they stand"
         );
-        let after = buffer.split_off(around.margin + capacity);
-        let slice = buffer.split_off(around.margin);
-        Self {
-            returned,
-            before: buffer,
-            slice,
-            after,
-        }
+        Self { returned, record }
     }
 
     /// Whether all bytes but those of an accepted record are as they were.
-    fn is_clean(&self, around: Surroundings) -> bool {
-        let written = self.returned.unwrap_or(0);
-        let rest = self.slice.iter().skip(written);
-        let mut unwritten = self.before.iter().chain(rest).chain(&self.after);
-        unwritten.all(|&byte| byte == around.fill)
+    fn is_clean(&self) -> bool {
+        self.record.is_clean_after(self.returned.unwrap_or(0))
     }
 }
 
@@ -131,9 +93,7 @@ impl fmt::Display for Outcome {
             Ok(length) => write!(f, "length {length}")?,
             Err(number) => write!(f, "refusal {number}")?,
         }
-        let [before, slice, after] = [&self.before, &self.slice, &self.after].map(|b| hex(b));
-        write!(f, ", slice [{slice}]\n{:12}", "")?;
-        write!(f, "before it [{before}]\n{:12}after it  [{after}]", "")
+        write!(f, ", record {}", self.record)
     }
 }
 
@@ -151,7 +111,7 @@ fn agreed(labels: &[u8], capacity: usize, around: Surroundings) -> Result<usize,
         nenturxo::labels_in(labels, record).map_err(|refusal| refusal.number())
     });
     assert!(
-        library == defined && fast == defined && library.is_clean(around),
+        library == defined && fast == defined && library.is_clean(),
         "the versions differ, or bytes changed that must not\n\
          labels      {labels:?}\n\
          capacity    {capacity}\n\
@@ -160,10 +120,4 @@ fn agreed(labels: &[u8], capacity: usize, around: Surroundings) -> Result<usize,
          fast        {fast}"
     );
     answer
-}
-
-/// The bytes as records are written in the sheet.
-fn hex(bytes: &[u8]) -> String {
-    let bytes: Vec<String> = bytes.iter().map(|byte| format!("{byte:02X}")).collect();
-    bytes.join(" ")
 }

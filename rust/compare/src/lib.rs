@@ -1,16 +1,24 @@
 //! What the comparing tests and the benchmark share: random numbers, random
-//! Baxter lists, lists by the thousand, and the comparison of one case.
+//! Baxter lists and records, lists by the thousand, damage, and the comparison
+//! of one case.
 //!
-//! Each call of the sheet has a module here that compares a case of it, and a
-//! folder in `tests/` with the cases.
+//! Each call of the sheet, and the program, has a module here that compares a
+//! case of it, and a folder in `tests/` with the cases.
 
 #![forbid(unsafe_code)]
 
+pub mod damage;
+mod given;
 mod labels_in;
+mod lent;
 pub mod lists;
+pub mod planlist;
+pub mod question;
 pub mod random;
+pub mod record_in;
 mod tally;
 pub mod walk;
 
+pub use given::Given;
 pub use random::Random;
 pub use tally::{report, Tally};

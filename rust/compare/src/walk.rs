@@ -2,11 +2,10 @@
 //!
 //! A walk is a list of triples that meets the "Needs" column at every step and
 //! ends with one run. Each walk is one Baxter list and each Baxter list is one
-//! walk, so lists that are not separable come up as they should. The labels
-//! are found by keeping the runs themselves, as the "New label" column says.
+//! walk, so lists that are not separable come up as they should.
 
 use crate::random::Random;
-use reference::Triple;
+use reference::{record_of, Runs, Triple, TRIPLES};
 
 /// A Baxter list and the triples of the walk that it was made by.
 #[derive(Clone, Debug)]
@@ -17,114 +16,12 @@ pub struct Walked {
     pub triples: Vec<Triple>,
 }
 
-/// The triples of the sheet's table, in its order.
-const TABLE: [Triple; 8] = [
-    [false, false, false],
-    [false, true, false],
-    [true, false, false],
-    [true, true, false],
-    [false, false, true],
-    [true, false, true],
-    [false, true, true],
-    [true, true, true],
-];
-
-/// The runs of the labels seen so far, from the lowest to the highest.
-///
-/// The labels are not known before the end, so a run holds the positions of
-/// its labels, again from the lowest label to the highest.
-struct Runs {
-    runs: Vec<Vec<usize>>,
-    current: usize,
-}
-
-impl Runs {
-    /// Only position 0 is seen.
-    fn start() -> Self {
-        Self {
-            runs: vec![vec![0]],
-            current: 0,
-        }
-    }
-
-    /// The number of runs below the current one.
-    fn p(&self) -> usize {
-        self.current
-    }
-
-    /// The number of runs above the current one.
-    fn q(&self) -> usize {
-        self.runs.len() - 1 - self.current
-    }
-
-    /// The table's column "Needs".
-    fn allows(&self, triple: Triple) -> bool {
-        match triple.map(u8::from) {
-            [1, 0, 0] | [1, 1, 0] => self.q() >= 1,
-            [0, 1, 1] | [1, 1, 1] => self.p() >= 1,
-            _ => true,
-        }
-    }
-
-    /// The table's columns "p, q after" and "New label" for an allowed triple.
-    fn step(&mut self, triple: Triple, position: usize) {
-        let here = self.current;
-        match triple.map(u8::from) {
-            // new run next above the current one
-            [0, 0, 0] => {
-                self.runs.insert(here + 1, vec![position]);
-                self.current = here + 1;
-            }
-            // on top of the current run
-            [0, 1, 0] => self.runs[here].push(position),
-            // under the next run above
-            [1, 0, 0] => {
-                self.runs[here + 1].insert(0, position);
-                self.current = here + 1;
-            }
-            // joins the current and next run above
-            [1, 1, 0] => {
-                let above = self.runs.remove(here + 1);
-                self.runs[here].push(position);
-                self.runs[here].extend(above);
-            }
-            // new run next below: it takes the current one's place
-            [0, 0, 1] => self.runs.insert(here, vec![position]),
-            // under the current run
-            [1, 0, 1] => self.runs[here].insert(0, position),
-            // on top of the next run below
-            [0, 1, 1] => {
-                self.runs[here - 1].push(position);
-                self.current = here - 1;
-            }
-            // joins the current and next run below
-            _ => {
-                let upper = self.runs.remove(here);
-                self.runs[here - 1].push(position);
-                self.runs[here - 1].extend(upper);
-                self.current = here - 1;
-            }
-        }
-    }
-
-    /// The number of runs that would be left beside the current one.
-    fn others_after(&self, triple: Triple) -> usize {
-        let others = self.p() + self.q();
-        match triple.map(u8::from) {
-            [0, 0, _] => others + 1,
-            [1, 1, _] => others - 1,
-            _ => others,
-        }
-    }
-
-    /// The labels by position, once all positions are seen: labels are ranks.
-    fn labels(&self) -> Vec<u8> {
-        let by_rank = self.runs.concat();
-        let mut labels = vec![0; by_rank.len()];
-        for (label, position) in (1..=255).zip(by_rank) {
-            labels[position] = label;
-        }
-        labels
+impl Walked {
+    /// The record of the walk.
+    #[must_use]
+    pub fn record(&self) -> Vec<u8> {
+        let kind = u8::try_from(self.labels.len()).expect("at most 255 labels");
+        record_of(kind, &self.triples)
     }
 }
 
@@ -146,21 +43,32 @@ pub fn biased_list(n: usize, random: &mut Random) -> Walked {
 fn weighted_list(n: usize, weights: [usize; 8], random: &mut Random) -> Walked {
     let mut runs = Runs::start();
     let mut triples = Vec::new();
-    for position in 1..n {
-        let to_come = n - 1 - position;
+    for to_come in (0..n - 1).rev() {
         let mut choices = Vec::new();
-        for (triple, weight) in TABLE.into_iter().zip(weights) {
-            if runs.allows(triple) && runs.others_after(triple) <= to_come {
+        for (triple, weight) in TRIPLES.into_iter().zip(weights) {
+            if runs.have_what_it_needs(triple) && others_after(&runs, triple) <= to_come {
                 choices.extend(std::iter::repeat_n(triple, weight));
             }
         }
         let triple = random.pick(&choices);
-        runs.step(triple, position);
+        runs.step(triple);
         triples.push(triple);
     }
     Walked {
         labels: runs.labels(),
         triples,
+    }
+}
+
+/// The number of runs beside the current one after a step that has what it
+/// needs.
+#[must_use]
+pub fn others_after(runs: &Runs, triple: Triple) -> usize {
+    let others = runs.p() + runs.q();
+    match triple.map(u8::from) {
+        [0, 0, _] => others + 1,
+        [1, 1, _] => others - 1,
+        _ => others,
     }
 }
 

@@ -15,13 +15,19 @@
 #![deny(unsafe_code)]
 
 mod refusal;
+mod relation;
 #[allow(unsafe_code)]
 mod sys;
 
 pub use refusal::Refusal;
+pub use relation::Relation;
 
 /// The length of the longest record, that of 255 rooms.
 pub const RECORD_CAPACITY: usize = 97;
+
+/// The greatest number of rooms: output slices of so many entries are long
+/// enough for every record.
+pub const ROOMS_CAPACITY: usize = 255;
 
 /// Labels in: writes the record of a label list to the front of `record` and
 /// gives its length. The rest of `record` keeps its bytes.
@@ -36,6 +42,91 @@ pub const RECORD_CAPACITY: usize = 97;
 /// [15](Refusal::SLICE_SHORT).
 pub fn labels_in(labels: &[u8], record: &mut [u8]) -> Result<usize, Refusal> {
     result(sys::labels_in(labels, record))
+}
+
+/// The output slices for rooms, one for each of the four numbers of a room.
+#[derive(Debug)]
+pub struct Corners<'a> {
+    /// Where the left edges of the rooms are, by position.
+    pub left: &'a mut [u16],
+    /// Where their bottom edges are.
+    pub bottom: &'a mut [u16],
+    /// Where their right edges are.
+    pub right: &'a mut [u16],
+    /// Where their top edges are.
+    pub top: &'a mut [u16],
+}
+
+/// Record in: writes the label of every room, and the room itself in the grid
+/// drawing, by position to the fronts of the five slices, and gives the number
+/// of rooms. The rest of each slice keeps its entries.
+///
+/// The outline of the drawing is 0 to n both ways, and y grows upward.
+///
+/// ```
+/// use nenturxo::{record_in, Corners};
+///
+/// let mut labels = [0; 5];
+/// let [mut left, mut bottom, mut right, mut top] = [[0; 5]; 4];
+/// let corners = Corners {
+///     left: &mut left,
+///     bottom: &mut bottom,
+///     right: &mut right,
+///     top: &mut top,
+/// };
+/// assert_eq!(record_in(&[0x05, 0x31, 0x70], &mut labels, corners)?, 5);
+/// assert_eq!(labels, [4, 1, 3, 5, 2]);
+/// assert_eq!(left, [0, 0, 2, 3, 2]);
+/// assert_eq!(bottom, [0, 1, 1, 0, 4]);
+/// assert_eq!(right, [3, 2, 3, 5, 5]);
+/// assert_eq!(top, [1, 5, 4, 4, 5]);
+/// # Ok::<(), nenturxo::Refusal>(())
+/// ```
+///
+/// # Errors
+///
+/// The first of these that holds, and all five slices are as they were:
+/// [9](Refusal::NO_KIND), [10](Refusal::BODY_SHORT),
+/// [11](Refusal::BYTES_AFTER), [14](Refusal::SPARE_BIT),
+/// [12](Refusal::RUN_MISSING), [13](Refusal::RUNS_LEFT),
+/// [15](Refusal::SLICE_SHORT).
+pub fn record_in(record: &[u8], labels: &mut [u8], corners: Corners<'_>) -> Result<usize, Refusal> {
+    let Corners {
+        left,
+        bottom,
+        right,
+        top,
+    } = corners;
+    result(sys::record_in(record, labels, [left, bottom, right, top]))
+}
+
+/// The question: how the room at position `first` of a record stands to the
+/// one at position `second`, and whether the two touch, that is, share a piece
+/// of edge in the grid drawing.
+///
+/// ```
+/// use nenturxo::{question, Refusal, Relation};
+///
+/// let record = [0x05, 0x31, 0x70];
+/// assert_eq!(question(&record, 1, 4)?, (Relation::Left, true));
+/// assert_eq!(question(&record, 5, 1)?, (Relation::Above, false));
+/// assert_eq!(question(&record, 1, 6), Err(Refusal::POSITION_OUTSIDE));
+/// # Ok::<(), nenturxo::Refusal>(())
+/// ```
+///
+/// # Errors
+///
+/// The first of these that holds: [9](Refusal::NO_KIND),
+/// [10](Refusal::BODY_SHORT), [11](Refusal::BYTES_AFTER),
+/// [14](Refusal::SPARE_BIT), [12](Refusal::RUN_MISSING),
+/// [13](Refusal::RUNS_LEFT), [16](Refusal::POSITION_OUTSIDE),
+/// [17](Refusal::POSITIONS_EQUAL).
+pub fn question(record: &[u8], first: u8, second: u8) -> Result<(Relation, bool), Refusal> {
+    let code = sys::question(record, first, second);
+    if code < 0 {
+        return Err(Refusal::from_code(code));
+    }
+    Ok(Relation::from_code(code))
 }
 
 /// The result that a code stands for.

@@ -14,6 +14,23 @@ mod c {
             record: *mut u8,
             capacity: usize,
         ) -> Code;
+
+        pub fn nenturxo_record_in(
+            record: *const u8,
+            n: usize,
+            labels: *mut u8,
+            labels_capacity: usize,
+            left: *mut u16,
+            left_capacity: usize,
+            bottom: *mut u16,
+            bottom_capacity: usize,
+            right: *mut u16,
+            right_capacity: usize,
+            top: *mut u16,
+            top_capacity: usize,
+        ) -> Code;
+
+        pub fn nenturxo_question(record: *const u8, n: usize, first: u8, second: u8) -> Code;
     }
 }
 
@@ -30,4 +47,36 @@ pub fn labels_in(labels: &[u8], record: &mut [u8]) -> Code {
             record.len(),
         )
     }
+}
+
+/// `nenturxo_record_in` on six slices: the record, the labels, and the rooms'
+/// left, bottom, right and top edges.
+pub fn record_in(record: &[u8], labels: &mut [u8], corners: [&mut [u16]; 4]) -> Code {
+    let [left, bottom, right, top] = corners;
+    // SAFETY: every pointer is good for as many elements as the length beside
+    // it says, all but the first for writing too, and as all slices but the
+    // first are borrowed mutably no two overlap. The call keeps no pointer.
+    unsafe {
+        c::nenturxo_record_in(
+            record.as_ptr(),
+            record.len(),
+            labels.as_mut_ptr(),
+            labels.len(),
+            left.as_mut_ptr(),
+            left.len(),
+            bottom.as_mut_ptr(),
+            bottom.len(),
+            right.as_mut_ptr(),
+            right.len(),
+            top.as_mut_ptr(),
+            top.len(),
+        )
+    }
+}
+
+/// `nenturxo_question` on a slice and two positions.
+pub fn question(record: &[u8], first: u8, second: u8) -> Code {
+    // SAFETY: the pointer is good for as many bytes as the length beside it
+    // says. The call keeps no pointer.
+    unsafe { c::nenturxo_question(record.as_ptr(), record.len(), first, second) }
 }

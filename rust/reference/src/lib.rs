@@ -9,20 +9,34 @@
 //! let mut record = [0; 97];
 //! let length = reference::labels_in(&[4, 1, 3, 5, 2], &mut record)?;
 //! assert_eq!(record[..length], [0x05, 0x31, 0x70]);
+//!
+//! let plan = reference::plan_of(&record[..length])?;
+//! assert_eq!(plan.labels, [4, 1, 3, 5, 2]);
 //! # Ok::<(), reference::Refusal>(())
 //! ```
 
 #![forbid(unsafe_code)]
 
 mod barred;
+mod drawing;
 pub mod fast;
 mod labels;
+mod plan;
+mod planlist;
+mod question;
 mod record;
 mod refusal;
+mod runs;
+mod touch;
 mod triple;
 
 pub use barred::is_barred;
+pub use drawing::{drawing, Room};
 pub use labels::labels_in;
-pub use record::record_of;
+pub use plan::{plan_of, record_in, Corners, Plan};
+pub use planlist::planlist;
+pub use question::{question, Relation};
+pub use record::{record_of, triples_in};
 pub use refusal::Refusal;
+pub use runs::{labels_of, Runs, TRIPLES};
 pub use triple::{triples, Triple};

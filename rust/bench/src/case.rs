@@ -1,0 +1,86 @@
+//! What the calls are timed with.
+
+use compare::question::of_library;
+use compare::record_in::Slices;
+use compare::walk::random_list;
+use compare::Random;
+
+/// A plan, as each call takes it. Each call accepts it, so that every step is
+/// walked and every result written.
+pub struct Case {
+    pub labels: Vec<u8>,
+    pub record: Vec<u8>,
+    /// Two positions to ask for.
+    pub first: u8,
+    pub second: u8,
+}
+
+impl Case {
+    /// A random plan of `n` rooms, at least 2, and a random pair of positions.
+    pub fn random(n: usize, random: &mut Random) -> Self {
+        let walked = random_list(n, random);
+        let mut positions = walked.labels.clone();
+        random.shuffle(&mut positions);
+        Self {
+            record: walked.record(),
+            labels: walked.labels,
+            first: positions[0],
+            second: positions[1],
+        }
+    }
+
+    /// Stops unless both versions of each call accept the case with the same
+    /// result.
+    pub fn check(&self) {
+        let mut library = [0; nenturxo::RECORD_CAPACITY];
+        let mut rust = library;
+        let lengths = (
+            nenturxo::labels_in(&self.labels, &mut library).ok(),
+            reference::fast::labels_in(&self.labels, &mut rust).ok(),
+        );
+        let length = self.record.len();
+        assert_eq!(lengths, (Some(length), Some(length)), "{:?}", self.labels);
+        assert_eq!(library[..length], self.record, "{:?}", self.labels);
+        assert_eq!(library, rust, "{:?}", self.labels);
+
+        let (mut library, mut rust) = (Drawn::new(), Drawn::new());
+        let counts = (
+            library.slices().library(&self.record).ok(),
+            rust.slices().fast(&self.record).ok(),
+        );
+        let n = self.labels.len();
+        assert_eq!(counts, (Some(n), Some(n)), "{:02X?}", self.record);
+        assert_eq!(library.labels[..n], self.labels, "{:02X?}", self.record);
+        assert_eq!(library, rust, "{:02X?}", self.record);
+
+        let (first, second) = (self.first, self.second);
+        let library = nenturxo::question(&self.record, first, second).ok();
+        let rust = reference::fast::question(&self.record, first, second).ok();
+        let rust = rust.map(|(relation, touch)| (of_library(relation), touch));
+        assert!(library.is_some(), "{:02X?} is refused", self.record);
+        assert_eq!(library, rust, "{first}, {second} of {:02X?}", self.record);
+    }
+}
+
+/// Output slices of "Record in" that are long enough for every record.
+#[derive(Debug, PartialEq, Eq)]
+pub struct Drawn {
+    labels: [u8; nenturxo::ROOMS_CAPACITY],
+    corners: [[u16; nenturxo::ROOMS_CAPACITY]; 4],
+}
+
+impl Drawn {
+    pub fn new() -> Self {
+        Self {
+            labels: [0; nenturxo::ROOMS_CAPACITY],
+            corners: [[0; nenturxo::ROOMS_CAPACITY]; 4],
+        }
+    }
+
+    pub fn slices(&mut self) -> Slices<'_> {
+        Slices {
+            labels: &mut self.labels,
+            corners: self.corners.each_mut().map(|corner| &mut corner[..]),
+        }
+    }
+}

@@ -1,0 +1,131 @@
+//! Slices that are lent to a call as the middle parts of larger buffers, so
+//! that whatever a call does outside of them shows.
+
+use std::fmt;
+
+/// What stands in and around the lent slices before a call.
+#[derive(Clone, Copy)]
+pub struct Surroundings {
+    /// The value of every byte that is no input.
+    fill: u8,
+    /// How many entries stand before each slice, and again after it.
+    margin: usize,
+}
+
+/// Each case is run in both. They have no byte in common, so nothing that is
+/// written can hide behind a byte that was there before, and an answer that
+/// heeds bytes around the slices shows. The slices are aligned differently.
+pub const SURROUNDINGS: [Surroundings; 2] = [
+    Surroundings {
+        fill: 0xa5,
+        margin: 24,
+    },
+    Surroundings {
+        fill: 0x5a,
+        margin: 29,
+    },
+];
+
+/// An entry of an output slice.
+pub trait Entry: Copy + Eq + fmt::UpperHex {
+    /// The entry whose bytes are all `fill`.
+    fn of_bytes(fill: u8) -> Self;
+}
+
+impl Entry for u8 {
+    fn of_bytes(fill: u8) -> Self {
+        fill
+    }
+}
+
+impl Entry for u16 {
+    fn of_bytes(fill: u8) -> Self {
+        Self::from_ne_bytes([fill; 2])
+    }
+}
+
+/// An input slice with its surroundings.
+pub struct Input {
+    buffer: Vec<u8>,
+    around: Surroundings,
+}
+
+impl Input {
+    /// The buffer before a call.
+    pub fn new(bytes: &[u8], around: Surroundings) -> Self {
+        let margin = vec![around.fill; around.margin];
+        Self {
+            buffer: [&margin, bytes, &margin].concat(),
+            around,
+        }
+    }
+
+    /// The slice to lend.
+    pub fn slice(&self) -> &[u8] {
+        let margin = self.around.margin;
+        &self.buffer[margin..self.buffer.len() - margin]
+    }
+
+    /// Whether the slice is still `bytes` and all around it as it was.
+    pub fn is_still(&self, bytes: &[u8]) -> bool {
+        self.buffer == Self::new(bytes, self.around).buffer
+    }
+}
+
+/// An output slice with its surroundings.
+#[derive(Clone, PartialEq, Eq)]
+pub struct Output<T> {
+    buffer: Vec<T>,
+    fill: T,
+    margin: usize,
+}
+
+impl<T: Entry> Output<T> {
+    /// The buffer before a call, for a slice of `capacity` entries.
+    pub fn new(capacity: usize, around: Surroundings) -> Self {
+        let fill = T::of_bytes(around.fill);
+        Self {
+            buffer: vec![fill; around.margin + capacity + around.margin],
+            fill,
+            margin: around.margin,
+        }
+    }
+
+    /// The slice to lend.
+    pub fn slice(&mut self) -> &mut [T] {
+        let end = self.buffer.len() - self.margin;
+        &mut self.buffer[self.margin..end]
+    }
+
+    /// Whether all entries but the first `written` ones of the slice, and all
+    /// around it, are as they were.
+    pub fn is_clean_after(&self, written: usize) -> bool {
+        let (before, rest) = self.buffer.split_at(self.margin);
+        let as_it_was = |entries: &[T]| entries.iter().all(|&entry| entry == self.fill);
+        as_it_was(before) && rest.get(written..).is_some_and(as_it_was)
+    }
+}
+
+impl<T: Entry> fmt::Display for Output<T> {
+    fn fmt(&self, f: &mut fmt::Formatter<'_>) -> fmt::Result {
+        let (before, rest) = self.buffer.split_at(self.margin);
+        let (slice, after) = rest.split_at(rest.len() - self.margin);
+        write!(f, "[{}]", hex(slice))?;
+        for (name, entries) in [("before", before), ("after", after)] {
+            if entries.iter().any(|&entry| entry != self.fill) {
+                write!(f, ", {name} it [{}]", hex(entries))?;
+            }
+        }
+        Ok(())
+    }
+}
+
+/// The entries in hexadecimal, as records are written in the sheet.
+pub fn hex<T: Entry>(entries: &[T]) -> String {
+    let width = 2 * size_of::<T>();
+    let entries: Vec<String> = entries
+        .iter()
+        .map(|entry| format!("{entry:0width$X}"))
+        .collect();
+    entries.join(" ")
+}

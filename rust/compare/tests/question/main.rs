@@ -1,0 +1,6 @@
+//! The question: the library against the definitions.
+
+mod all_pairs;
+mod random_pairs;
+mod refused_records;
+mod worked_plans;

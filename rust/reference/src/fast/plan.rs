@@ -1,0 +1,234 @@
+//! "Record in" and the question, by two walks over the record.
+
+use super::steps::{read, Step, NO_STEPS};
+use super::walks::{walk, walk_back, Seen, NOTHING_SEEN};
+use crate::{Corners, Refusal, Relation, Room};
+
+/// Record in, with the answers of [`crate::record_in`].
+///
+/// # Errors
+///
+/// As there.
+// Not inlined, so that a benchmark pays for a call as with a library.
+#[inline(never)]
+pub fn record_in(record: &[u8], labels: &mut [u8], corners: Corners<'_>) -> Result<usize, Refusal> {
+    let (mut steps, mut seen) = (NO_STEPS, NOTHING_SEEN);
+    let n = read(record, &mut steps)?;
+    walk(n, &steps, &mut seen)?;
+
+    let labels = labels.get_mut(..n).ok_or(Refusal::SliceShort)?;
+    let left = corners.left.get_mut(..n).ok_or(Refusal::SliceShort)?;
+    let bottom = corners.bottom.get_mut(..n).ok_or(Refusal::SliceShort)?;
+    let right = corners.right.get_mut(..n).ok_or(Refusal::SliceShort)?;
+    let top = corners.top.get_mut(..n).ok_or(Refusal::SliceShort)?;
+
+    for place in 0..n {
+        (left[place], bottom[place]) = starts(place, steps[place], seen[place]);
+    }
+    walk_back(n, &steps, &seen, 0, |place, label, entered| {
+        labels[place] = label;
+        right[place] = entered;
+    });
+    for place in 0..n {
+        (right[place], top[place]) = ends(place, steps[place + 1], right[place]);
+    }
+    Ok(n)
+}
+
+/// The question, with the answers of [`crate::question`].
+///
+/// # Errors
+///
+/// As there.
+// Not inlined, so that a benchmark pays for a call as with a library.
+#[inline(never)]
+pub fn question(record: &[u8], first: u8, second: u8) -> Result<(Relation, bool), Refusal> {
+    let (mut steps, mut seen) = (NO_STEPS, NOTHING_SEEN);
+    let n = read(record, &mut steps)?;
+    walk(n, &steps, &mut seen)?;
+
+    let (earlier, later) = (first.min(second), first.max(second));
+    if earlier < 1 || usize::from(later) > n {
+        return Err(Refusal::PositionOutside);
+    }
+    if earlier == later {
+        return Err(Refusal::PositionsEqual);
+    }
+
+    let places = [earlier, later].map(|position| usize::from(position) - 1);
+    let mut found = [(0, 0); 2];
+    walk_back(n, &steps, &seen, places[0], |place, label, entered| {
+        found[0] = (label, entered);
+        if place == places[1] {
+            found[1] = (label, entered);
+        }
+    });
+    let [one, other] = [0, 1].map(|which| {
+        let place = places[which];
+        let (left, bottom) = starts(place, steps[place], seen[place]);
+        let (right, top) = ends(place, steps[place + 1], found[which].1);
+        Room {
+            left,
+            bottom,
+            right,
+            top,
+        }
+    });
+
+    // A room left of another one can only share an upright edge with it, and
+    // one below another one only a level edge.
+    let is_left = found[0].0 < found[1].0;
+    let touch = if is_left {
+        one.right == other.left && one.bottom.max(other.bottom) < one.top.min(other.top)
+    } else {
+        one.top == other.bottom && one.left.max(other.left) < one.right.min(other.right)
+    };
+    let relation = match (is_left, first == earlier) {
+        (true, true) => Relation::Left,
+        (true, false) => Relation::Right,
+        (false, true) => Relation::Below,
+        (false, false) => Relation::Above,
+    };
+    Ok((relation, touch))
+}
+
+/// The left and the bottom of the room at a place: the position before it and
+/// the newest one on the other side, as the step to it tells.
+fn starts(place: usize, step: Step, seen: Seen) -> (u16, u16) {
+    let (before, newest) = (place as u16, seen.newest());
+    if step.goes_down() {
+        (newest, before)
+    } else {
+        (before, newest)
+    }
+}
+
+/// The right and the top of the room at a place: the position itself, and one
+/// less than that which first enters the gap on the other side, as the step
+/// from it tells.
+fn ends(place: usize, step: Step, entered: u16) -> (u16, u16) {
+    let position = place as u16 + 1;
+    if step.goes_down() {
+        (entered, position)
+    } else {
+        (position, entered)
+    }
+}
+
+#[cfg(test)]
+mod tests {
+    use crate::{fast, plan_of, question, record_in, record_of, Corners, Runs, Triple, TRIPLES};
+
+    /// Compares the two versions of "Record in" on slices of `capacity` entries.
+    fn compare_into(record: &[u8], capacity: usize) {
+        let mut outcomes = Vec::new();
+        for call in [record_in, fast::record_in] {
+            let mut labels = vec![0xa5; capacity];
+            let mut corners = [(); 4].map(|()| vec![0xa5a5; capacity]);
+            let [left, bottom, right, top] = &mut corners;
+            let answer = call(
+                record,
+                &mut labels,
+                Corners {
+                    left,
+                    bottom,
+                    right,
+                    top,
+                },
+            );
+            outcomes.push((answer, labels, corners));
+        }
+        assert_eq!(outcomes[0], outcomes[1], "{record:02x?} into {capacity}");
+    }
+
+    /// Compares the two versions of both calls.
+    fn compare(record: &[u8]) {
+        let Ok(plan) = plan_of(record) else {
+            compare_into(record, 0);
+            compare_into(record, 8);
+            let answers = (question(record, 0, 0), fast::question(record, 0, 0));
+            assert_eq!(answers.0, answers.1, "{record:02x?}");
+            return;
+        };
+        let n = record[0];
+        for capacity in [0, usize::from(n) - 1, usize::from(n), usize::from(n) + 1] {
+            compare_into(record, capacity);
+        }
+        for first in 0..=n.saturating_add(1) {
+            for second in 0..=n.saturating_add(1) {
+                let answer = fast::question(record, first, second);
+                let defined = plan.question(first, second);
+                assert_eq!(answer, defined, "{record:02x?}, {first} and {second}");
+            }
+        }
+    }
+
+    #[test]
+    fn agrees_with_the_definitions_on_every_record_of_up_to_2_bytes() {
+        compare(&[]);
+        for kind in 0..=255 {
+            compare(&[kind]);
+            for byte in 0..=255 {
+                compare(&[kind, byte]);
+            }
+        }
+    }
+
+    #[test]
+    fn agrees_with_the_definitions_on_every_record_of_3_bytes_that_has_its_length() {
+        for kind in 4..=6 {
+            for body in 0..=u16::MAX {
+                let [upper, lower] = body.to_be_bytes();
+                compare(&[kind, upper, lower]);
+            }
+        }
+    }
+
+    #[test]
+    fn agrees_with_the_definitions_on_long_walks() {
+        let mut state: u32 = 1;
+        for n in [7, 8, 9, 30, 100, 254, 255] {
+            for _ in 0..2 {
+                let (mut runs, mut triples) = (Runs::start(), Vec::new());
+                for to_come in (0..n - 1).rev() {
+                    let fits = |&triple: &Triple| {
+                        let mut after = runs.clone();
+                        runs.have_what_it_needs(triple) && {
+                            after.step(triple);
+                            after.p() + after.q() <= to_come
+                        }
+                    };
+                    let choices: Vec<Triple> = TRIPLES.into_iter().filter(fits).collect();
+                    state = state.wrapping_mul(1_664_525).wrapping_add(1_013_904_223);
+                    let triple = choices[(state >> 16) as usize % choices.len()];
+                    runs.step(triple);
+                    triples.push(triple);
+                }
+                compare(&record_of(u8::try_from(n).unwrap(), &triples));
+            }
+        }
+    }
+
+    #[test]
+    fn agrees_with_the_definitions_where_the_runs_are_most() {
+        // 127 new runs and then as many joins, or another step at the end.
+        for (new_run, join) in [(0, 7), (4, 3)] {
+            let new_runs = vec![TRIPLES[new_run]; 127];
+            for last in TRIPLES {
+                let mut triples = [&new_runs[..], &[TRIPLES[join]; 127]].concat();
+                triples[253] = last;
+                compare(&record_of(255, &triples));
+            }
+        }
+        // New runs only, on one side or on both, and then a need that is met
+        // or missing.
+        for (low, high) in [(254, 0), (0, 254), (127, 127), (253, 0), (0, 253)] {
+            let new_runs = [vec![TRIPLES[0]; low], vec![TRIPLES[4]; high]].concat();
+            for last in TRIPLES {
+                let mut triples = new_runs.clone();
+                triples.resize(254, last);
+                compare(&record_of(255, &triples));
+            }
+        }
+    }
+}
