@@ -1,10 +1,10 @@
 -- What reading a record tells the two calls: the refusal is theirs too, or the labels are the record's.
 use mathlib.Core.Bool.{Bool}
 use mathlib.Core.List.{List, _++_}
-use mathlib.Core.Logic.{_≢_, _⊎_, inl, inr, ite, if-pos, if-neg}
+use mathlib.Core.Logic.{_≢_, _⊎_, inl, inr, if-pos, if-neg}
 use mathlib.Core.Path.{_≡_, sym, ap, subst, _∙_}
-use Prim.Native.Nat.{ℕ, _≤_, _<_}
-use native.Mathlib.Decide.{decLt, ℕ-discrete}
+use Prim.Native.Nat.{ℕ, _≤_}
+use native.Mathlib.Decide.{ℕ-discrete}
 use native.Mathlib.Omega.{arith}
 use lib.ListN.{length, take, drop, length-take}
 use Rattle.finite.specs.Decide.{Tells, holds, tells-holds}
@@ -12,7 +12,7 @@ use Rattle.record.specs.Labels.{labelAt}
 use Rattle.record.specs.Read.{kindOf, bodyOf, labelsOf}
 use Rattle.record.specs.Record.{tripleIn}
 use Rattle.record.specs.Backward.{length-decode}
-use Rattle.record.specs.Checked.{Readable, Refuses, checked, Sorted, refused, read, sorted, refused-checked, readable-checked}
+use Rattle.record.specs.Checked.{Readable, checked, Sorted, refused, read, sorted, refused-checked, readable-checked}
 use Rattle.record.specs.declared.Refusal.{Refusal}
 use Rattle.record.specs.declared.Refusal.the-variants.{ShortOutput, PositionOutside, SamePosition}
 use Rattle.reading.specs.Answer.{readingOf, Reads}

@@ -1,10 +1,10 @@
 -- Search in a range of numbers a ≤ i < e: whether some number has a property, whether each has it, the first that has it and the last.
 use mathlib.Core.Path.{_≡_, sym, subst}
 use mathlib.Core.Logic.{_⊎_, inl, inr}
-use Prim.Native.Nat.{ℕ, zero, suc, _+_, _-_, _≤_, _<_}
+use Prim.Native.Nat.{ℕ, zero, suc, _≤_, _<_}
 use native.Mathlib.Nat.{eq-or-lt-of-le, le-of-suc-le-suc}
 use native.Mathlib.Omega.{arith}
-use Rattle.finite.specs.Decide.{le-or-lt, dec-¬, stable}
+use Rattle.finite.specs.Decide.{le-or-lt}
 
 -- some i with a ≤ i < e has P
 abbrev pub Some : (ℕ → Type 0) → ℕ → ℕ → Type 0

@@ -1,19 +1,17 @@
 -- The body while its groups are set, one a triple, and when all are set.
 use mathlib.Core.Bool.{Bool, true, false, _&&_}
 use mathlib.Core.List.{List}
-use mathlib.Core.Logic.{_≢_, _⊎_, inl, inr}
 use mathlib.Core.Path.{_≡_, refl, sym, ap, subst, _∙_}
 use Prim.Native.Nat.{ℕ, zero, suc, _+_, _-_, _*_, _/_, _%_, _≤_, _<_}
 use native.Mathlib.Omega.{arith}
 use native.Mathlib.Decide.{ℕ-discrete}
 use borrow.Author.Tests.{ltb-true, ltb-false}
 use lib.Dec.{ltb}
-use lib.ListN.{length, getD, replicate, length-replicate, take}
-use lib.Seq.{length-take-le, getD-take, ext-getD}
-use Rattle.bits.specs.Bit.{bit, bitIn, bitAt, Bytes, groupAt, GroupSet, pack}
+use lib.ListN.{length, replicate, length-replicate}
+use Rattle.bits.specs.Bit.{bit, bitAt, Bytes, groupAt, GroupSet, pack}
 use Rattle.bits.specs.Pack.{length-pack, bytes-pack, bitAt-pack, group-bits, same-bits, zeros-at, bitAt-zeros}
 use Rattle.record.specs.Triple.{Triple, triple}
-use Rattle.record.specs.Record.{bodyLength, tripleBit, bodyBit}
+use Rattle.record.specs.Record.{tripleBit, bodyBit}
 
 -- the first k triples are in the body, and the rest is zero
 pub record Partly (triples : ℕ → Triple) (k : ℕ) (body : List ℕ) : Type 0 where

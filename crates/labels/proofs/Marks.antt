@@ -1,15 +1,15 @@
 -- Marks for the labels seen so far: one place a label, 1 where it is seen.
 use mathlib.Core.Bool.{Bool, true, false}
 use mathlib.Core.List.{List}
-use mathlib.Core.Logic.{_≢_, _⊎_, inl, inr}
-use mathlib.Core.Path.{_≡_, refl, sym, ap, _∙_}
+use mathlib.Core.Logic.{_≢_, inl, inr}
+use mathlib.Core.Path.{_≡_, sym, ap, _∙_}
 use Prim.Native.Nat.{ℕ, suc, _≤_, _<_}
 use native.Mathlib.Omega.{arith}
 use native.Mathlib.Decide.{ℕ-discrete}
 use lib.ListN.{length, getD, set, replicate, getD-replicate}
 use lib.Seq.{getD-set-same, getD-set-other}
 use Rattle.bits.specs.Bit.{bit}
-use Rattle.finite.specs.Decide.{Tells, holds, holds-tells, tells-same, tells-holds, eq-or-ne}
+use Rattle.finite.specs.Decide.{Tells, holds, holds-tells, tells-holds, eq-or-ne}
 use Rattle.record.specs.Triple.{Earlier, dec-earlier}
 
 -- the labels of the positions before k are marked

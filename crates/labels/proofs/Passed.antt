@@ -1,25 +1,24 @@
 -- The pass over the labels: what holds after k triples, when a label is turned away, and how the next label is taken.
 -- The runs of the labels seen are those of the record's theory, and the two stacks have one label of each.
-use mathlib.Core.Bool.{Bool, true, false, cond}
-use mathlib.Core.List.{List, []}
-use mathlib.Core.Logic.{_≢_, _⊎_, inl, inr}
+use mathlib.Core.Bool.{Bool, true, false}
+use mathlib.Core.List.{List}
+use mathlib.Core.Logic.{_≢_, inl, inr}
 use mathlib.Core.Path.{_≡_, refl, sym, ap, subst, _∙_}
-use Prim.Native.Nat.{ℕ, zero, suc, _+_, _-_, _*_, _≤_, _<_}
+use Prim.Native.Nat.{ℕ, zero, suc, _+_, _-_, _≤_, _<_}
 use native.Mathlib.Omega.{arith}
 use native.Mathlib.Decide.{decLt}
 use borrow.Author.Tests.{lt-ltb, le-ltb, ltb-true, ltb-false}
 use lib.Dec.{ltb}
 use lib.ListN.{length, getD, set, length-set, replicate, length-replicate}
 use Rattle.bits.specs.Bit.{bit, GroupSet, pack}
-use Rattle.finite.specs.Decide.{le-or-lt, Tells, holds, holds-tells}
+use Rattle.finite.specs.Decide.{le-or-lt, Tells, holds-tells}
 use Rattle.record.specs.declared.Label.{Label}
 use Rattle.record.specs.Labels.{labelAt, LabelOutside, LabelTwice, EachOnce}
-use Rattle.record.specs.Barred.{Barred, Baxter}
-use Rattle.record.specs.Triple.{Triple, triple, Earlier, dec-earlier, tripleAt}
+use Rattle.record.specs.Barred.{Baxter}
+use Rattle.record.specs.Triple.{Triple, triple, dec-earlier, tripleAt}
 use Rattle.record.specs.Record.{bodyBit}
 use Rattle.record.specs.Way.{Way, up, down, Past}
-use Rattle.record.specs.Sides.{Run}
-use Rattle.record.specs.Runs.{Runs, Inside, ahead, grow, Before, Step, reach-chained, one-way, fresh-past, chained-free}
+use Rattle.record.specs.Runs.{Runs, Inside, ahead, Before, Step, reach-chained, one-way, fresh-past, chained-free}
 use Rattle.record.specs.Decode.{bitsOf, turnOf}
 use Rattle.record.specs.NextTo.{Seen, NextTo, not-barred-next, next-not-barred}
 use Rattle.record.specs.Forward.{Takes, leave, take, joined-takes, triple-turn, runsOf, Stage, stage-first, step-stage, free-step}

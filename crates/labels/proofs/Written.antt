@@ -1,9 +1,9 @@
 -- The record from its kind and body.
 use mathlib.Core.List.{List, _∷_}
 use mathlib.Core.Path.{_≡_, ap, _∙_}
-use Prim.Native.Nat.{ℕ, _+_, _≤_}
+use Prim.Native.Nat.{ℕ, _≤_}
 use native.Mathlib.Omega.{arith}
-use lib.ListN.{length, take, length-take}
+use lib.ListN.{length, take}
 use Rattle.bits.specs.Bit.{pack}
 use Rattle.bits.specs.Pack.{length-pack, take-pack}
 use Rattle.record.specs.Labels.{labelAt}

@@ -1,12 +1,10 @@
 -- One label of each run on one side is kept: enough to tell whether a new label lies past the nearest run.
-use mathlib.Core.Bool.{Bool, true, false}
 use mathlib.Core.List.{List, [], _∷_}
-use mathlib.Core.Path.{_≡_, sym, subst}
+use mathlib.Core.Path.{sym, subst}
 use Prim.Native.Nat.{ℕ}
-use Rattle.record.specs.Way.{Way, up, down, other, Past, past-trans, past-not-self, past-turn, past-turn-back, Order, before, same, after, order}
-use Rattle.record.specs.Sides.{Run, Side, last, more, near-seen}
+use Rattle.record.specs.Way.{Way, other, Past, past-trans, past-not-self, past-turn, Order, before, same, after, order}
+use Rattle.record.specs.Sides.{Run, Side, last, more}
 use Rattle.record.specs.Runs.{Runs, Faithful, Inside, currentRun, Before, no-run, first-run}
-use Rattle.record.specs.Forward.{Takes, leave, take}
 
 -- y is one of the labels of the run r
 pub record Within (way : Way) (y : ℕ) (r : Run) : Type 0 where

@@ -1,7 +1,7 @@
 -- From triples to labels: an accepted sequence of triples is that of the list it is decoded to, which is Baxter, and of no other Baxter list.
 -- The runs taken apart from the end have the sizes counted from the front, so each step forward leads back to them.
 use mathlib.Core.Path.{_≡_, refl, sym, ap, subst, subst₂, _∙_}
-use mathlib.Core.Logic.{_≢_, _⊎_, inl, inr}
+use mathlib.Core.Logic.{_≢_, inl, inr}
 use mathlib.Core.Bool.{Bool, true, false}
 use mathlib.Core.List.{List, [], _∷_}
 use Prim.Native.Nat.{ℕ, zero, suc, _+_, _-_, _≤_, _<_}
@@ -9,9 +9,9 @@ use native.Mathlib.Omega.{arith}
 use lib.ListN.{length, getD}
 use Rattle.bits.specs.Bit.{bit}
 use Rattle.finite.specs.Decide.{le-or-lt, eq-or-ne}
-use Rattle.finite.specs.Table.{table, length-table, getD-table}
+use Rattle.finite.specs.Table.{length-table, getD-table}
 use Rattle.record.specs.Labels.{labelAt, EachOnce}
-use Rattle.record.specs.Barred.{Barred, Baxter}
+use Rattle.record.specs.Barred.{Barred}
 use Rattle.record.specs.Triple.{Triple, triple, tripleAt}
 use Rattle.record.specs.Walk.{Counts, missing, counts, step, andThen, walk, Accepted}
 use Rattle.record.specs.Way.{Way, up, down, other, Past, past-trans, Order, before, same, after, order}
@@ -19,7 +19,7 @@ use Rattle.record.specs.Sides.{Run, rest-of, Joined, apart, joined}
 use Rattle.record.specs.Runs.{Runs, runs-same, facing, ahead, Step, nothing-past, step-fresh, step-tells, reach-chained, one-way}
 use Rattle.record.specs.Decode.{bitsOf, turnOf, Sizes, sizesAhead, joinedSize, growSizes, sizesAfter, lowerSize, takeOut, runsBut, labelOf, decode}
 use Rattle.record.specs.NextTo.{Seen, NextTo, not-barred-next, next-not-barred}
-use Rattle.record.specs.Forward.{Takes, leave, take, rising-counts, falling-counts, triple-is, runsOf, Stage, stage-first, step-stage, seen-grown, stages, steps, no-run-left, ends}
+use Rattle.record.specs.Forward.{Takes, leave, take, rising-counts, falling-counts, triple-is, runsOf, Stage, stage-first, step-stage, seen-grown, steps, no-run-left, ends}
 use Rattle.record.specs.Sizes.{Spaced, last, Has, Sized, step-sized, label-back, runs-back, take-out-step}
 
 -- ---- the decoded list

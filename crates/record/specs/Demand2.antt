@@ -1,17 +1,14 @@
 -- Demand 2 for label lists and triples: "a record gives the only Baxter permutation that has it"; "Every Baxter permutation of 1 to 255 labels is
 -- accepted, given long enough output slices, and no other list is."
 use mathlib.Core.Path.{_≡_, refl, sym, ap, subst, _∙_}
-use mathlib.Core.Logic.{_≢_, _⊎_, inl, inr, _↔_}
-use mathlib.Core.Bool.{Bool, true, false, _&&_}
-use mathlib.Core.List.{List, [], _∷_}
+use mathlib.Core.Logic.{_≢_, inl, inr, _↔_}
+use mathlib.Core.List.{List}
 use Prim.Native.Nat.{ℕ, zero, suc, _+_, _-_, _*_, _/_, _%_, _≤_, _<_}
 use native.Mathlib.Omega.{arith}
 use borrow.Author.Tests.{lt-ltb}
-use lib.Dec.{ltb}
 use lib.ListN.{length, getD, drop}
 use lib.Seq.{ext-getD}
 use Rattle.finite.specs.Decide.{eq-or-ne, le-or-lt}
-use Rattle.finite.specs.Table.{length-table, getD-table}
 use Rattle.bits.specs.Bit.{bitAt, pack}
 use Rattle.bits.specs.Pack.{length-pack, bitAt-pack}
 use Rattle.record.specs.Labels.{labelAt, EachOnce, LabelOutside, LabelTwice}
@@ -23,7 +20,7 @@ use Rattle.record.specs.Answer.{labelsAnswer}
 use Rattle.record.specs.Demand1 as says
 use Rattle.record.specs.Demand1.{LabelsSays, wrote, demand1-labels-cause, demand1-labels-answer}
 use Rattle.record.specs.Causes.{BadCount}
-use Rattle.record.specs.Decode.{labelOf, decode}
+use Rattle.record.specs.Decode.{decode}
 use Rattle.record.specs.NextTo.{not-barred-next}
 use Rattle.record.specs.Forward.{accepted}
 use Rattle.record.specs.Backward.{length-decode, decode-at, decoded-each, decoded-triple, decoded-not-barred, own-label}

@@ -1,26 +1,25 @@
 -- Demand 2 for records: "a record gives the only Baxter permutation that has it".
 use mathlib.Core.Path.{_≡_, refl, sym, ap, subst, _∙_}
 use mathlib.Core.Bool.{Bool, true, false, _&&_}
-use mathlib.Core.Logic.{_≢_, _⊎_, inl, inr}
+use mathlib.Core.Logic.{_≢_, inl, inr}
 use mathlib.Core.List.{List, [], _∷_}
 use Prim.Native.Nat.{ℕ, zero, suc, _+_, _-_, _*_, _/_, _%_, _≤_, _<_}
 use native.Mathlib.Omega.{arith}
 use borrow.Author.Tests.{ltb-true, ltb-false, le-ltb}
 use lib.Dec.{ltb}
-use lib.ListN.{length, getD, drop, length-drop}
+use lib.ListN.{length, length-drop}
 use lib.Seq.{getD-drop}
 use Rattle.finite.specs.Search.{Some}
 use Rattle.bits.specs.Bit.{bitAt, Bytes, pack}
 use Rattle.bits.specs.Pack.{length-pack, bytes-pack, bitAt-pack, same-bits}
 use Rattle.record.specs.Labels.{labelAt}
 use Rattle.record.specs.Barred.{Baxter}
-use Rattle.record.specs.Triple.{Triple, triple, tripleAt}
+use Rattle.record.specs.Triple.{Triple, tripleAt}
 use Rattle.record.specs.Walk.{Counts, missing, counts, step, andThen, walk, Accepted}
 use Rattle.record.specs.Record.{bodyLength, tripleBit, bodyBit, tripleIn, recordOf}
-use Rattle.record.specs.Decode.{decode}
 use Rattle.record.specs.Read.{kindOf, bodyOf, endOf, Missing, Several, labelsOf}
 use Rattle.record.specs.Checked.{Readable}
-use Rattle.record.specs.Demand2.{HasTriples, OnlyList, demand2-record-accepted, demand2-one-list, record-triple, record-length}
+use Rattle.record.specs.Demand2.{OnlyList, demand2-record-accepted, demand2-one-list, record-triple, record-length}
 
 -- the walk of a record that is read ends with one run
 pub readable-accepted : (bytes : List ℕ) → Readable bytes → Accepted (tripleIn (bodyOf bytes)) (kindOf bytes)

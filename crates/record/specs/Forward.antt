@@ -1,6 +1,6 @@
 -- From labels to triples: along a Baxter list the runs of the seen labels follow the table, and its triples are accepted.
 -- Each step is that of Runs; when all labels are seen, one run is left.
-use mathlib.Core.Path.{_≡_, refl, sym, ap, ap₂, subst, _∙_}
+use mathlib.Core.Path.{_≡_, refl, sym, ap, subst, _∙_}
 use mathlib.Core.Logic.{_≢_, _⊎_, inl, inr}
 use mathlib.Core.Bool.{Bool, true, false}
 use mathlib.Core.List.{List, [], _∷_}
@@ -9,12 +9,11 @@ use native.Mathlib.Omega.{arith}
 use native.Mathlib.Decide.{decLt}
 use lib.ListN.{length}
 use Rattle.finite.specs.Decide.{Tells, holds, holds-tells, tells-same, tells-holds, eq-or-ne}
-use Rattle.finite.specs.Search.{Some}
 use Rattle.record.specs.Labels.{EachOnce}
-use Rattle.record.specs.Triple.{Triple, triple, Earlier, dec-earlier, tripleAt}
+use Rattle.record.specs.Triple.{Triple, triple, dec-earlier, tripleAt}
 use Rattle.record.specs.Walk.{Counts, counts, step, andThen, walk, Accepted}
 use Rattle.record.specs.Way.{Way, up, down, other, Past, Beside, past-not-self, not-past-same, beside-past, beside-one, beside-tight, next-toward}
-use Rattle.record.specs.Sides.{Run, Next, Side, last, more, Joined, none, apart, joined, BesideSeen, Grown, near-seen, tells-joined, end-of, rest-of}
+use Rattle.record.specs.Sides.{Run, Side, last, more, Joined, none, apart, joined, BesideSeen, Grown, near-seen, tells-joined}
 use Rattle.record.specs.Runs.{Runs, Faithful, Inside, ahead, Before, Step, grow, edge-seen, nothing-past, fronts, step-fresh, step-faithful, step-inside, fresh-past, chained-free}
 use Rattle.record.specs.Decode.{bitsOf, turnOf}
 use Rattle.record.specs.NextTo.{Seen, NextTo, every}

@@ -1,13 +1,12 @@
 -- Reading a record: what its bytes hold, and the causes for which it is refused. "Order: records 9, 10, 11, 14, 12, 13."
 use mathlib.Core.Path.{_≡_}
 use mathlib.Core.Bool.{true}
-use mathlib.Core.Logic.{_⊎_, ite}
+use mathlib.Core.Logic.{_⊎_}
 use mathlib.Core.List.{List}
 use Prim.Native.Nat.{ℕ, _+_, _-_, _*_, _≤_, _<_}
 use lib.ListN.{length, getD, drop}
 use Rattle.finite.specs.Search.{Some}
 use Rattle.bits.specs.Bit.{bitAt}
-use Rattle.record.specs.Triple.{Triple}
 use Rattle.record.specs.Walk.{Counts, missing, counts, walk}
 use Rattle.record.specs.Record.{bodyLength, tripleIn}
 use Rattle.record.specs.Decode.{decode}

@@ -7,7 +7,7 @@ use mathlib.Core.List.{List, [], _∷_}
 use Prim.Native.Nat.{ℕ}
 use Rattle.finite.specs.Decide.{Tells}
 use Rattle.record.specs.Way.{Way, up, down, other, Past, Beside, past-trans, past-not-self, past-not-back, past-turn, past-turn-back, beside-past, beside-turn-back, beside-tight, next-toward, Order, before, same, after, order}
-use Rattle.record.specs.Sides.{Run, Clear, Full, Next, Side, last, more, Front, open-front, run-front, Joined, end-of, rest-of, BesideSeen, Grown, near-seen, joined-tells, tells-joined, Grew, joined-grew}
+use Rattle.record.specs.Sides.{Run, Full, Side, last, more, Front, open-front, run-front, Joined, end-of, rest-of, BesideSeen, Grown, near-seen, joined-tells, Grew, joined-grew}
 
 -- the current run's last label on each side, and the runs after it, nearest first
 pub record Runs : Type 0 where

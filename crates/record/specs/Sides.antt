@@ -1,6 +1,6 @@
 -- The runs of seen labels on one side of a label, nearest first, and how one more label is joined to them.
 -- S says which labels are seen, T the same after one more.
-use mathlib.Core.Path.{_≡_, sym, subst}
+use mathlib.Core.Path.{_≡_, subst}
 use mathlib.Core.Logic.{_≢_, _⊎_, inl, inr}
 use mathlib.Core.Bool.{Bool, true, false}
 use mathlib.Core.List.{List, [], _∷_}

@@ -1,16 +1,16 @@
 -- Runs and their sizes: a step forward and the label taken out again are one another's inverse.
 -- Each side is looked at by itself: the label meets runs of given sizes there, and is joined to the first or not.
-use mathlib.Core.Path.{_≡_, refl, sym, ap, subst, _∙_}
-use mathlib.Core.Logic.{_≢_, _⊎_, inl, inr}
+use mathlib.Core.Path.{_≡_, refl, ap, subst, _∙_}
+use mathlib.Core.Logic.{_⊎_, inl, inr}
 use mathlib.Core.Bool.{Bool, true, false}
 use mathlib.Core.List.{List, [], _∷_}
-use Prim.Native.Nat.{ℕ, zero, suc, _+_, _-_, _≤_, _<_}
+use Prim.Native.Nat.{ℕ, _+_, _-_, _≤_}
 use native.Mathlib.Omega.{arith}
 use Rattle.record.specs.Triple.{Triple, triple}
-use Rattle.record.specs.Way.{Way, up, down, other, Past, Beside, past-trans, past-not-self, past-not-back, past-turn, past-turn-back, beside-past, beside-tight}
+use Rattle.record.specs.Way.{Way, up, down, other, Past, Beside, past-trans, past-not-self, past-not-back, past-turn, beside-tight}
 use Rattle.record.specs.Sides.{Run, rest-of, Joined, none, apart, joined}
 use Rattle.record.specs.Runs.{Runs, runs-same, facing, currentRun, ahead, Before, no-run, first-run, Step}
-use Rattle.record.specs.Decode.{bitsOf, turnOf, Sizes, sizesAhead, joinedSize, growSizes, beside, met, firstRun, otherRuns, split, takeOut}
+use Rattle.record.specs.Decode.{bitsOf, turnOf, Sizes, sizesAhead, joinedSize, growSizes, beside, met, split, takeOut}
 
 -- going that way, e is s steps after x
 abbrev pub Reaches : Way → (x e s : ℕ) → Type 0

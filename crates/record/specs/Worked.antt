@@ -3,7 +3,7 @@ use mathlib.Core.Path.{_≡_, refl}
 use mathlib.Core.List.{List, [], _∷_}
 use Prim.Native.Nat.{ℕ}
 use Rattle.finite.specs.Table.{table}
-use Rattle.bits.specs.Bit.{value, byteOf, pack}
+use Rattle.bits.specs.Bit.{value, byteOf, pack, bitAt, bitIn}
 use Rattle.record.specs.Triple.{tripleAt}
 use Rattle.record.specs.Record.{bodyBit, recordOf}
 use Rattle.record.specs.Causes.{dec-count, dec-outside, dec-twice, dec-barred}
@@ -11,8 +11,7 @@ use Rattle.record.specs.Refusal.{numberOf}
 use Rattle.record.specs.Walk.{walk, step}
 use Rattle.record.specs.Read.{labelsOf}
 use Rattle.record.specs.Checked.{dec-no-kind, dec-spare, dec-missing, dec-several, checked}
-use Rattle.bits.specs.Bit.{bitAt, bitIn}
-use Rattle.record.specs.Answer.{labelsAnswer, recordAfter}
+use Rattle.record.specs.Answer.{labelsAnswer}
 use Rattle.record.specs.declared.LabelsAnswer.{LabelsAnswer}
 use Rattle.record.specs.declared.LabelsAnswer.the-variants.{Wrote, Refused}
 

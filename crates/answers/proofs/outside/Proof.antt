@@ -2,17 +2,14 @@
 use mathlib.Core.Bool.{Bool, true, false}
 use mathlib.Core.Logic.{_≢_, inl, inr}
 use mathlib.Core.Path.{_≡_, refl}
-use Prim.Native.Nat.{ℕ, _<_}
+use Prim.Native.Nat.{ℕ}
 use native.Mathlib.Omega.{arith}
 use lib.Dec.{ltb}
 use borrow.Author.Tests.{ltb-true, ltb-false}
 use Rattle.finite.specs.Decide.{Tells}
 use Rattle.answers.specs.Answer.{Outside}
-use borrow.Author.Needs.{needs}
 use Rattle.answers.proofs.outside.Statement.{statement}
 use Rattle.answers.proofs.outside.Tie as tie
-use Rattle.answers.proofs.outside.Reads as reads
-use Rattle.answers.proofs.outside.Lts as lts
 
 told : (n position : ℕ) → position ≢ 0 → (b : Bool) → ltb n position ≡ b → Tells b (Outside position n)
 told n position some true e = inr (ltb-true n position e)

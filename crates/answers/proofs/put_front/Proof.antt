@@ -1,17 +1,15 @@
 -- `answers::put_front` meets its contract: after i turns the first i numbers are pasted over the front of the slice.
 use mathlib.Core.List.{List, _++_}
-use mathlib.Core.Path.{_≡_, refl, ap, _∙_}
-use Prim.Native.Nat.{ℕ, _+_, _-_, _≤_}
+use mathlib.Core.Path.{_≡_, refl, ap}
+use Prim.Native.Nat.{ℕ, _-_, _≤_}
 use native.Mathlib.Omega.{arith}
 use native.Mathlib.Nat.{zero-add}
 use native.Mathlib.Numerals.{add-one}
-use lib.ListN.{length, take, drop, set, length-set}
+use lib.ListN.{length, drop, length-set}
 use lib.Seq.{paste, paste-zero, paste-suc, take-length}
 use borrow.Author.Needs.{needs}
 use Rattle.answers.proofs.put_front.Statement.{statement}
 use Rattle.answers.proofs.put_front.Tie as tie
-use Rattle.answers.proofs.put_front.Reads as reads
-use Rattle.answers.proofs.put_front.Lts as lts
 
 abbrev Inv-loop : tie.InvT-loop
 Inv-loop numbers slice₀ n i₀ slice i = (i ≤ length numbers) × (slice ≡ paste slice₀ 0 numbers i) × (length slice ≡ length slice₀)

@@ -1,10 +1,7 @@
 -- `answers::record_in` meets its contract: the record is read or refused, the slices are measured, and only then written.
-use mathlib.Core.List.{List, _++_}
-use mathlib.Core.Logic.{_⊎_, inl, inr}
-use mathlib.Core.Path.{_≡_, refl, sym, ap, subst, _∙_}
-use Prim.Native.Nat.{ℕ, _≤_, _<_}
-use native.Mathlib.Omega.{arith}
-use lib.ListN.{length, take, drop}
+use mathlib.Core.Logic.{inl, inr}
+use mathlib.Core.Path.{_≡_, refl, sym, subst, _∙_}
+use lib.ListN.{length}
 use Rattle.record.specs.declared.Refusal.the-variants.{ShortOutput}
 use Rattle.reading.specs.Answer.{Reads}
 use Rattle.reading.specs.declared.Reading.{Reading}

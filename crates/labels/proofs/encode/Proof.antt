@@ -1,6 +1,5 @@
 -- `labels::encode` meets its contract. Between two turns the labels passed are those of Passed, which also says when a label is turned away and what
 -- the next turn leaves.
-use mathlib.Core.Path.{_≡_, refl, sym, _∙_}
 use Prim.Native.Nat.{_+_, _-_}
 use native.Mathlib.Omega.{arith}
 use lib.ListN.{length, getD}

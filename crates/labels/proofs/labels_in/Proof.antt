@@ -1,17 +1,17 @@
 -- `labels::labels_in` meets its contract. Each answer comes with its cause, and without the causes that the order names before it.
-use mathlib.Core.List.{List, _∷_, _++_}
-use mathlib.Core.Logic.{_⊎_, inl, inr, ⊎-elim}
-use mathlib.Core.Path.{_≡_, refl, sym, ap, subst, _∙_}
-use Prim.Native.Nat.{ℕ, _+_}
+use mathlib.Core.List.{_++_}
+use mathlib.Core.Logic.{inl, inr}
+use mathlib.Core.Path.{_≡_, refl, sym, ap, _∙_}
+use Prim.Native.Nat.{_+_}
 use native.Mathlib.Omega.{arith}
 use lib.ListN.{length, drop}
 use borrow.Author.Needs.{needs}
 use Rattle.finite.specs.Decide.{stable}
 use Rattle.bits.specs.Bit.{pack}
 use Rattle.record.specs.Labels.{labelAt, LabelOutside}
-use Rattle.record.specs.Barred.{Barred, Baxter}
+use Rattle.record.specs.Barred.{Baxter}
 use Rattle.record.specs.Triple.{tripleAt}
-use Rattle.record.specs.Record.{bodyLength, bodyBit, recordOf}
+use Rattle.record.specs.Record.{bodyBit}
 use Rattle.record.specs.Causes.{BadCount, dec-barred}
 use Rattle.record.specs.Demand1.{count, outside, twice, barred, short, wrote, demand1-labels-answer}
 use Rattle.record.specs.Demand2.{each-once, once-single, record-length}

@@ -11,8 +11,6 @@ use Rattle.record.specs.Labels.{labelAt}
 use Rattle.labels.proofs.Found.{found-by-two}
 use Rattle.labels.proofs.outside.Statement.{statement}
 use Rattle.labels.proofs.outside.Tie as tie
-use Rattle.labels.proofs.outside.Reads as reads
-use Rattle.labels.proofs.outside.Lts as lts
 
 -- the label of position j is outside 1 to n
 abbrev OutsideAt : List ℕ → ℕ → Type 0

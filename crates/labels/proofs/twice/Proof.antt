@@ -1,11 +1,11 @@
 -- `labels::twice` meets its contract. The labels passed are marked and none of them occurs twice.
 use mathlib.Core.Bool.{false}
 use mathlib.Core.List.{List}
-use mathlib.Core.Path.{_≡_, refl, sym, ap, _∙_}
-use Prim.Native.Nat.{ℕ, suc, _-_, _≤_, _<_}
+use mathlib.Core.Path.{_≡_, refl, sym, _∙_}
+use Prim.Native.Nat.{ℕ, suc, _-_, _≤_}
 use native.Mathlib.Omega.{arith}
 use native.Mathlib.Numerals.{add-one}
-use lib.ListN.{length, getD, set, length-set}
+use lib.ListN.{length, length-set}
 use borrow.Author.Needs.{needs}
 use Rattle.finite.specs.Search.{Some}
 use Rattle.record.specs.Labels.{labelAt}
@@ -14,9 +14,6 @@ use Rattle.labels.proofs.Found.{found-before}
 use Rattle.labels.proofs.Marks.{Marks, marks-none, marks-more, mark-tells}
 use Rattle.labels.proofs.twice.Statement.{statement}
 use Rattle.labels.proofs.twice.Tie as tie
-use Rattle.labels.proofs.twice.Reads as reads
-use Rattle.labels.proofs.twice.Lts as lts
-use Rattle.record.proofs.Label.index.Reads as index-reads
 
 -- the label of position j stands at an earlier position too
 abbrev TwiceAt : List ℕ → ℕ → Type 0

@@ -1,16 +1,14 @@
 -- `labels::write_record` meets its contract. The loop copies the body behind the kind byte, which is written last.
-use mathlib.Core.Path.{_≡_, refl, ap, _∙_}
-use Prim.Native.Nat.{ℕ, _+_, _-_, _≤_}
+use mathlib.Core.Path.{_≡_, refl}
+use Prim.Native.Nat.{_-_, _≤_}
 use native.Mathlib.Omega.{arith}
 use native.Mathlib.Numerals.{add-one}
-use lib.ListN.{length, set, length-set}
+use lib.ListN.{length, length-set}
 use lib.Seq.{paste, paste-zero, paste-suc}
 use borrow.Author.Needs.{needs}
 use Rattle.labels.proofs.Front.{front-is}
 use Rattle.labels.proofs.write_record.Statement.{statement}
 use Rattle.labels.proofs.write_record.Tie as tie
-use Rattle.labels.proofs.write_record.Reads as reads
-use Rattle.labels.proofs.write_record.Lts as lts
 
 abbrev Inv-loop : tie.InvT-loop
 Inv-loop kind body record₀ n i₀ «record» i = (i ≤ length body) × («record» ≡ paste record₀ 1 body i) × (length «record» ≡ length record₀)

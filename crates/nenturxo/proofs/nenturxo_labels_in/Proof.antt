@@ -1,6 +1,5 @@
 -- `nenturxo::nenturxo_labels_in` meets its contract: the answer of Labels in, as a number. A length is at most 97, so it fits.
-use mathlib.Core.Path.{_≡_, sym, ap, _∙_}
-use Prim.Native.Nat.{ℕ}
+use mathlib.Core.Path.{sym, ap, _∙_}
 use native.Mathlib.Omega.{arith}
 use lib.ListN.{length}
 use mir.Syntax.{w32}
@@ -9,16 +8,12 @@ use mir.ValLaws.{toZ-ofZ}
 use lib.IntN.{ℤ}
 use borrow.Author.Needs.{needs}
 use Rattle.record.specs.declared.LabelsAnswer.{LabelsAnswer}
-use Rattle.record.specs.Answer.{labelsAnswer, recordAfter}
+use Rattle.record.specs.Answer.{recordAfter}
 use Rattle.record.specs.Demand2.{wrote-at-most-97}
 use Rattle.nenturxo.specs.Code.{refusalCode, labelsCode}
 use Rattle.nenturxo.proofs.Signed.{small-is, small-fits, refused-fits}
 use Rattle.nenturxo.proofs.nenturxo_labels_in.Statement.{statement}
 use Rattle.nenturxo.proofs.nenturxo_labels_in.Tie as tie
-use Rattle.nenturxo.proofs.nenturxo_labels_in.Reads as reads
-use Rattle.nenturxo.proofs.nenturxo_labels_in.Lts as lts
-use Rattle.labels.proofs.labels_in.Reads as labels-in-reads
-use Rattle.nenturxo.proofs.refused.Reads as refused-reads
 
 labels-in-requires : tie.Need-labels-in-requires
 labels-in-requires c κs = search needs

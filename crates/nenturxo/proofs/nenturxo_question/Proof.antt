@@ -10,11 +10,6 @@ use Rattle.nenturxo.proofs.Signed.{small-is, refused-fits}
 use borrow.Author.Needs.{needs}
 use Rattle.nenturxo.proofs.nenturxo_question.Statement.{statement}
 use Rattle.nenturxo.proofs.nenturxo_question.Tie as tie
-use Rattle.nenturxo.proofs.nenturxo_question.Reads as reads
-use Rattle.nenturxo.proofs.nenturxo_question.Lts as lts
-use Rattle.answers.proofs.question.Reads as question-reads
-use Rattle.nenturxo.proofs.refused.Reads as refused-reads
-use Rattle.nenturxo.proofs.related_number.Reads as related-number-reads
 
 question-requires : tie.Need-question-requires
 question-requires c κs = search needs

@@ -1,5 +1,5 @@
 -- `nenturxo::refused` meets its contract: a refusal's number is small, so it can be negated.
-use mathlib.Core.Path.{_≡_, ap, _∙_}
+use mathlib.Core.Path.{ap, _∙_}
 use Prim.Native.Nat.{ℕ}
 use native.Mathlib.Omega.{arith}
 use lib.IntN.{pos, negℤ}
@@ -9,9 +9,6 @@ use borrow.Author.Needs.{needs}
 use Rattle.nenturxo.proofs.Signed.{negated-is, negated-fits}
 use Rattle.nenturxo.proofs.refused.Statement.{statement}
 use Rattle.nenturxo.proofs.refused.Tie as tie
-use Rattle.nenturxo.proofs.refused.Reads as reads
-use Rattle.nenturxo.proofs.refused.Lts as lts
-use Rattle.record.proofs.Refusal.number.Reads as number-reads
 
 number-requires : tie.Need-number-requires
 number-requires c κs = search needs

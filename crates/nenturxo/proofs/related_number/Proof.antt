@@ -6,9 +6,6 @@ use Rattle.nenturxo.specs.Code.{relatedNumber}
 use borrow.Author.Needs.{needs}
 use Rattle.nenturxo.proofs.related_number.Statement.{statement}
 use Rattle.nenturxo.proofs.related_number.Tie as tie
-use Rattle.nenturxo.proofs.related_number.Reads as reads
-use Rattle.nenturxo.proofs.related_number.Lts as lts
-use Rattle.nenturxo.proofs.relation_number.Reads as relation-number-reads
 
 relation-number-requires : tie.Need-relation-number-requires
 relation-number-requires c κs = search needs

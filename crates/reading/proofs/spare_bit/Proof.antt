@@ -1,12 +1,8 @@
-use Prim.Native.Nat.{_<_}
 use native.Mathlib.Omega.{arith}
 use Rattle.reading.proofs.Spare.{none-spare, some-spare}
 use borrow.Author.Needs.{needs}
 use Rattle.reading.proofs.spare_bit.Statement.{statement}
 use Rattle.reading.proofs.spare_bit.Tie as tie
-use Rattle.reading.proofs.spare_bit.Reads as reads
-use Rattle.reading.proofs.spare_bit.Lts as lts
-use Rattle.reading.proofs.wide.Reads as wide-reads
 
 mul-spare : tie.Need-mul-spare
 mul-spare c = search needs

@@ -1,8 +1,6 @@
 use borrow.Author.Needs.{needs}
 use Rattle.record.proofs.Refusal.number.Statement.{statement}
 use Rattle.record.proofs.Refusal.number.Tie as tie
-use Rattle.record.proofs.Refusal.number.Reads as reads
-use Rattle.record.proofs.Refusal.number.Lts as lts
 
 -- src/lib.rt:51:31
 enum-told : tie.Need-enum-told
