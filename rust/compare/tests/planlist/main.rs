@@ -9,7 +9,6 @@ use compare::{Random, Tally};
 use reference::{record_of, Refusal, TRIPLES};
 
 #[test]
-#[ignore = "the program planlist is not built yet"]
 fn listing_printed_in_the_sheet() {
     let printed = "rooms 5\n\
                    1 4 0 0 3 1\n\
@@ -28,7 +27,6 @@ fn listing_printed_in_the_sheet() {
 }
 
 #[test]
-#[ignore = "the program planlist is not built yet"]
 fn worked_records_of_the_sheet() {
     let name = "listings of the sheet's worked records";
     let program = Program::named();
@@ -58,7 +56,6 @@ fn worked_records_of_the_sheet() {
 }
 
 #[test]
-#[ignore = "the program planlist is not built yet"]
 fn short_inputs() {
     let name = "listings of short inputs";
     let program = Program::named();
@@ -74,7 +71,6 @@ fn short_inputs() {
 }
 
 #[test]
-#[ignore = "the program planlist is not built yet"]
 fn random_records() {
     const RECORDS: usize = 1_000;
     let name = "listings of random records";
@@ -93,7 +89,6 @@ fn random_records() {
 }
 
 #[test]
-#[ignore = "the program planlist is not built yet"]
 fn damaged_records() {
     const RECORDS: usize = 20;
     let name = "listings of damaged records";
@@ -111,7 +106,6 @@ fn damaged_records() {
 }
 
 #[test]
-#[ignore = "the program planlist is not built yet"]
 fn long_inputs() {
     let name = "listings of long inputs";
     let program = Program::named();
@@ -133,7 +127,6 @@ fn long_inputs() {
 }
 
 #[test]
-#[ignore = "the program planlist is not built yet"]
 fn inputs_that_come_in_pieces() {
     let name = "listings of inputs in pieces";
     let program = Program::named();

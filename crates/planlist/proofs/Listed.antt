@@ -1,0 +1,126 @@
+-- What Record in answers and writes is what the text of a record lists.
+use mathlib.Core.List.{List, _++_}
+use mathlib.Core.Logic.{inl, inr, if-neg}
+use mathlib.Core.Path.{_≡_, refl, sym, ap, subst, _∙_}
+use Prim.Native.Nat.{ℕ, zero, suc, _≤_, _<_}
+use native.Mathlib.Omega.{arith}
+use lib.ListN.{length, getD, drop, List·getD-append}
+use Rattle.finite.specs.Table.{table, length-table, getD-table}
+use Rattle.record.specs.Labels.{labelAt}
+use Rattle.record.specs.Read.{kindOf, bodyOf, labelsOf}
+use Rattle.record.specs.Record.{tripleIn}
+use Rattle.record.specs.Refusal.{numberOf}
+use Rattle.record.specs.Backward.{length-decode}
+use Rattle.record.specs.Checked.{checked, Sorted, refused, read, sorted, refused-checked, readable-checked}
+use Rattle.record.specs.declared.Refusal.{Refusal}
+use Rattle.drawing.specs.Corners.{leftsOf, bottomsOf, rightsOf, topsOf}
+use Rattle.drawing.specs.Drawing.{leftAt, bottomAt, rightAt, topAt, roomAt}
+use Rattle.drawing.specs.declared.Room.{Room}
+use Rattle.answers.specs.Answer.{Short, dec-short, recordAnswer, written}
+use Rattle.answers.specs.declared.RecordAnswer.{RecordAnswer}
+use Rattle.answers.specs.declared.RecordAnswer.the-variants.{Read, Refused}
+use Rattle.planlist.specs.Text.{refusedLine, headOf, lineOf, linesOf, listing, textOf}
+use Rattle.planlist.specs.Put.{roomIn}
+
+-- what is printed for an answer of Record in, with the labels that it gave
+abbrev textFor : RecordAnswer → (labels : List ℕ) → List ℕ
+textFor (Read n) labels = headOf n ++ linesOf (labelAt labels) (roomAt (labelAt labels) n) n
+textFor (Refused refusal) labels = refusedLine (numberOf refusal)
+
+abbrev Is-read : RecordAnswer → Type 0
+Is-read (Read n) = Unit
+Is-read (Refused refusal) = ⊥
+
+abbrev countOf : RecordAnswer → ℕ
+countOf (Read n) = n
+countOf (Refused refusal) = 0
+
+-- ---- 255 places are enough for any record
+enough : (kind : ℕ) → kind ≤ 255 → ¬ Short kind 255 255 255 255 255
+enough kind h (inl s) = omega arith
+enough kind h (inr (inl s)) = omega arith
+enough kind h (inr (inr (inl s))) = omega arith
+enough kind h (inr (inr (inr (inl s)))) = omega arith
+enough kind h (inr (inr (inr (inr s)))) = omega arith
+
+never : {A : Type 0} {n : ℕ} {refusal : Refusal} → Read n ≡ Refused refusal → A
+never e = absurd (subst Is-read e tt)
+
+length-labels : (bytes : List ℕ) → length (labelsOf bytes) ≡ kindOf bytes
+unfolding labelsOf
+length-labels bytes = length-decode (tripleIn (bodyOf bytes)) (kindOf bytes)
+
+-- ---- lines of equal labels and rooms are equal
+lines-same : (label other : ℕ → ℕ) (room another : ℕ → Room) (n : ℕ) → ((k : ℕ) → k < n → label (suc k) ≡ other (suc k)) → ((k : ℕ) → k < n → room (suc k) ≡ another (suc k))
+    → linesOf label room n ≡ linesOf other another n
+unfolding linesOf
+lines-same label other room another zero h g = refl
+lines-same label other room another (suc n) h g = λ i. lines-same label other room another n (λ k l. h k (omega arith)) (λ k l. g k (omega arith)) i ++ lineOf (suc n) (h n (omega arith) i) (g n (omega arith) i)
+
+-- ---- the output slices after the answer, where each held `before`
+pub record Written (bytes : List ℕ) (answer : RecordAnswer) (labels left bottom right top : List ℕ) : Type 0 where
+  pub before : List ℕ
+  pub answered : answer ≡ recordAnswer bytes 255 255 255 255 255
+  pub list : labels ≡ written answer (labelsOf bytes) before
+  pub lefts : left ≡ written answer (leftsOf (labelsOf bytes)) before
+  pub bottoms : bottom ≡ written answer (bottomsOf (labelsOf bytes)) before
+  pub rights : right ≡ written answer (rightsOf (labelsOf bytes)) before
+  pub tops : top ≡ written answer (topsOf (labelsOf bytes)) before
+
+-- the numbers that are written from the front of a list
+module _ (labels : List ℕ) {n : ℕ} (size : length labels ≡ n) (k : ℕ) (inside : k < n) where
+  front-label : {now : List ℕ} (rest : List ℕ) → now ≡ labels ++ rest → getD now k 0 ≡ getD labels k 0
+  front-label rest e = ap (λ (l : List ℕ). getD l k 0) e ∙ List·getD-append labels rest 0 k (omega arith)
+
+  front-corner : (corner : ℕ → ℕ) {now : List ℕ} (rest : List ℕ) → now ≡ table corner (length labels) ++ rest → getD now k 0 ≡ corner k
+  front-corner corner rest e =
+      ap (λ (l : List ℕ). getD l k 0) e
+      ∙ List·getD-append (table corner (length labels)) rest 0 k (omega (arith, length-table corner (length labels)))
+      ∙ getD-table corner (length labels) k 0 (omega arith)
+
+  front-room : {left bottom right top : List ℕ} (lefts bottoms rights tops : List ℕ)
+      → left ≡ leftsOf labels ++ lefts → bottom ≡ bottomsOf labels ++ bottoms → right ≡ rightsOf labels ++ rights → top ≡ topsOf labels ++ tops
+      → roomIn left bottom right top (suc k) ≡ roomAt (labelAt labels) n (suc k)
+  front-room lefts bottoms rights tops l b r t = λ i. record {
+    left = front-corner (λ j. leftAt (labelAt labels) (suc j)) lefts l i;
+    bottom = front-corner (λ j. bottomAt (labelAt labels) (suc j)) bottoms b i;
+    right = (front-corner (λ j. rightAt (labelAt labels) (length labels) (suc j)) rights r ∙ ap (λ (m : ℕ). rightAt (labelAt labels) m (suc k)) size) i;
+    top = (front-corner (λ j. topAt (labelAt labels) (length labels) (suc j)) tops t ∙ ap (λ (m : ℕ). topAt (labelAt labels) m (suc k)) size) i;
+  }
+
+-- ---- the text
+module _ (bytes : List ℕ) (byte : kindOf bytes ≤ 255) where
+  answer-checked : recordAnswer bytes 255 255 255 255 255 ≡ checked Refused bytes (Read (kindOf bytes))
+  answer-checked = ap (λ (good : RecordAnswer). checked Refused bytes good) (if-neg (dec-short (kindOf bytes) 255 255 255 255 255) (enough (kindOf bytes) byte) _ _)
+
+  listed : textFor (Read (kindOf bytes)) (labelsOf bytes) ≡ listing (labelsOf bytes)
+  listed = ap (λ (n : ℕ). textFor (Read n) (labelsOf bytes)) (sym (length-labels bytes))
+
+  -- the text for the answer is the record's
+  text-answer : textFor (recordAnswer bytes 255 255 255 255 255) (labelsOf bytes) ≡ textOf bytes
+  text-answer = ap (λ (answer : RecordAnswer). textFor answer (labelsOf bytes)) answer-checked ∙ go (sorted bytes)
+    where
+      go : Sorted bytes → textFor (checked Refused bytes (Read (kindOf bytes))) (labelsOf bytes) ≡ textOf bytes
+      go (refused cause) = ap (λ (answer : RecordAnswer). textFor answer (labelsOf bytes)) (sym (refused-checked Refused bytes (Read (kindOf bytes)) cause)) ∙ refused-checked (λ refusal. refusedLine (numberOf refusal)) bytes (listing (labelsOf bytes)) cause
+      go (read all) = ap (λ (answer : RecordAnswer). textFor answer (labelsOf bytes)) (sym (readable-checked Refused bytes (Read (kindOf bytes)) all)) ∙ listed ∙ readable-checked (λ refusal. refusedLine (numberOf refusal)) bytes (listing (labelsOf bytes)) all
+
+  kind-read : (n : ℕ) → Read n ≡ recordAnswer bytes 255 255 255 255 255 → n ≡ kindOf bytes
+  kind-read n e = go (sorted bytes)
+    where
+      go : Sorted bytes → n ≡ kindOf bytes
+      go (refused cause) = never (e ∙ answer-checked ∙ sym (refused-checked Refused bytes _ cause))
+      go (read all) = ap countOf (e ∙ answer-checked ∙ sym (readable-checked Refused bytes _ all))
+
+  pub refused-text : (answer : RecordAnswer) (refusal : Refusal) (number : ℕ) → answer ≡ Refused refusal → answer ≡ recordAnswer bytes 255 255 255 255 255 → number ≡ numberOf refusal → refusedLine number ≡ textOf bytes
+  refused-text answer refusal number is e m = ap refusedLine m ∙ ap (λ (r : RecordAnswer). textFor r (labelsOf bytes)) (sym is ∙ e) ∙ text-answer
+
+  pub read-text : (labels left bottom right top : List ℕ) (n : ℕ) → Written bytes (Read n) labels left bottom right top → headOf n ++ linesOf (labelAt labels) (roomIn left bottom right top) n ≡ textOf bytes
+  read-text labels left bottom right top n w =
+      ap (λ (l : List ℕ). headOf n ++ l)
+      (lines-same (labelAt labels) (labelAt (labelsOf bytes)) (roomIn left bottom right top) (roomAt (labelAt (labelsOf bytes)) n) n
+      (λ k h. front-label (labelsOf bytes) size k h (drop n (w .before)) (w .list))
+      (λ k h. front-room (labelsOf bytes) size k h (drop n (w .before)) (drop n (w .before)) (drop n (w .before)) (drop n (w .before)) (w .lefts) (w .bottoms) (w .rights) (w .tops)))
+      ∙ ap (λ (r : RecordAnswer). textFor r (labelsOf bytes)) (w .answered) ∙ text-answer
+    where
+      size : length (labelsOf bytes) ≡ n
+      size = length-labels bytes ∙ sym (kind-read n (w .answered))

@@ -1,0 +1,4 @@
+-- What the program prints.
+pub mod Text
+pub mod Worked
+pub mod Put

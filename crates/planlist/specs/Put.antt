@@ -1,0 +1,17 @@
+-- What the inner functions' contracts cite: how a text grows by a part, and rooms whose corners stand in four lists.
+use mathlib.Core.List.{List, _++_}
+use mathlib.Core.Path.{_≡_}
+use Prim.Native.Nat.{ℕ, _+_}
+use lib.ListN.{length, take}
+use Rattle.record.specs.Labels.{labelAt}
+use Rattle.drawing.specs.declared.Room.{Room}
+
+-- a store held a text that ended at `at`: now the part follows it, and the text ends at `end`
+pub record Put (before : List ℕ) (at : ℕ) (part after : List ℕ) (end : ℕ) : Type 0 where
+  pub next : end ≡ at + length part
+  pub front : take end after ≡ take at before ++ part
+  pub size : length after ≡ length before
+
+-- the room at a position; `labelAt` reads any list by position
+abbrev pub roomIn : (left bottom right top : List ℕ) → (i : ℕ) → Room
+roomIn left bottom right top i = record { left = labelAt left i; bottom = labelAt bottom i; right = labelAt right i; top = labelAt top i }
