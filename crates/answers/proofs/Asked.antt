@@ -1,21 +1,18 @@
--- What reading a record tells the two calls: the refusal is theirs too, or the labels are the record's.
+-- What reading a record tells the two calls: the refusal is theirs too, or the record is not refused for what both look at.
 use mathlib.Core.Bool.{Bool}
-use mathlib.Core.List.{List, _++_}
+use mathlib.Core.List.{List}
 use mathlib.Core.Logic.{_≢_, _⊎_, inl, inr, if-pos, if-neg}
 use mathlib.Core.Path.{_≡_, sym, ap, subst, _∙_}
-use Prim.Native.Nat.{ℕ, _≤_}
+use Prim.Native.Nat.{ℕ, _≤_, _<_}
 use native.Mathlib.Decide.{ℕ-discrete}
 use native.Mathlib.Omega.{arith}
-use lib.ListN.{length, take, drop, length-take}
-use Rattle.finite.specs.Decide.{Tells, holds, tells-holds}
+use Rattle.finite.specs.Decide.{Tells, tells-holds}
 use Rattle.record.specs.Labels.{labelAt}
-use Rattle.record.specs.Read.{kindOf, bodyOf, labelsOf}
-use Rattle.record.specs.Record.{tripleIn}
-use Rattle.record.specs.Backward.{length-decode}
-use Rattle.record.specs.Checked.{Readable, checked, Sorted, refused, read, sorted, refused-checked, readable-checked}
+use Rattle.record.specs.Read.{kindOf, labelsOf}
+use Rattle.record.specs.Checked.{checked, Sorted, refused, read, sorted, refused-checked, readable-checked}
 use Rattle.record.specs.declared.Refusal.{Refusal}
 use Rattle.record.specs.declared.Refusal.the-variants.{ShortOutput, PositionOutside, SamePosition}
-use Rattle.reading.specs.Answer.{readingOf, Reads}
+use Rattle.reading.specs.Answer.{readingOf, Ready}
 use Rattle.reading.specs.declared.Reading.{Reading}
 use Rattle.reading.specs.declared.Reading.the-variants as reading
 use Rattle.drawing.specs.Drawing.{roomAt}
@@ -25,6 +22,16 @@ use Rattle.drawing.specs.declared.Relation.{Relation}
 use Rattle.answers.specs.Answer.{Short, dec-short, recordAnswer, Outside, dec-outside, questionAnswer}
 use Rattle.answers.specs.declared.RecordAnswer.the-variants as recordIn
 use Rattle.answers.specs.declared.QuestionAnswer.the-variants as question
+
+-- every slice has enough places
+pub long-enough : {n labels left bottom right top : ℕ} → ¬ Short n labels left bottom right top → (n ≤ labels) × (n ≤ left) × (n ≤ bottom) × (n ≤ right) × (n ≤ top)
+long-enough {n} {labels} {left} {bottom} {right} {top} enough =
+    let a : ¬ (labels < n) = λ h. enough (inl h) in
+    let b : ¬ (left < n) = λ h. enough (inr (inl h)) in
+    let c : ¬ (bottom < n) = λ h. enough (inr (inr (inl h))) in
+    let d : ¬ (right < n) = λ h. enough (inr (inr (inr (inl h)))) in
+    let e : ¬ (top < n) = λ h. enough (inr (inr (inr (inr h)))) in
+    (omega arith, omega arith, omega arith, omega arith, omega arith)
 
 abbrev Is-read : Reading → Type 0
 Is-read (reading.Read n) = Unit
@@ -46,30 +53,7 @@ same-refusal refuse bytes good refusal e = go (sorted bytes)
     go (refused cause) = ap (λ (r : Reading). refuse (refusalOf r refusal)) (e ∙ sym (refused-checked reading.Refused bytes (reading.Read (kindOf bytes)) cause)) ∙ refused-checked refuse bytes good cause
     go (read all) = absurd (subst Is-read (sym (e ∙ sym (readable-checked reading.Refused bytes (reading.Read (kindOf bytes)) all))) tt)
 
--- the labels that were read
-pub record Given (bytes found : List ℕ) (n : ℕ) : Type 0 where
-  pub readable : Readable bytes
-  pub kind : n ≡ kindOf bytes
-  pub small : n ≤ 255
-  pub list : take n found ≡ labelsOf bytes
-  pub size : length (take n found) ≡ n
-  pub long : n ≤ length found
-
-length-labels : (bytes : List ℕ) → length (labelsOf bytes) ≡ kindOf bytes
-unfolding labelsOf
-length-labels bytes = length-decode (tripleIn (bodyOf bytes)) (kindOf bytes)
-
-pub given : (bytes found : List ℕ) (n : ℕ) → reading.Read n ≡ readingOf bytes → Reads (reading.Read n) bytes found → Given bytes found n
-given bytes found n e (small, list) = go (sorted bytes)
-  where
-    go : Sorted bytes → Given bytes found n
-    go (refused cause) = absurd (subst Is-read (e ∙ sym (refused-checked reading.Refused bytes (reading.Read (kindOf bytes)) cause)) tt)
-    go (read all) =
-        let kind : n ≡ kindOf bytes = ap countOf (e ∙ sym (readable-checked reading.Refused bytes (reading.Read (kindOf bytes)) all)) in
-        let size : length (take n found) ≡ n = ap length list ∙ length-labels bytes ∙ sym kind in
-        record { readable = all; kind = kind; small = small; list = list; size = size; long = omega (arith, size, length-take n found) }
-
-module _ {bytes found : List ℕ} {n : ℕ} (g : Given bytes found n) where
+module _ {bytes lower : List ℕ} {n : ℕ} (g : Ready bytes n lower) where
   -- ---- the question's answers
   module _ (first second : ℕ) where
     abbrev f : ℕ → ℕ
@@ -89,21 +73,12 @@ module _ {bytes found : List ℕ} {n : ℕ} (g : Given bytes found n) where
           sym (if-neg (dec-outside first second (kindOf bytes)) inside-kind _ _ ∙ if-pos (ℕ-discrete first second) e _ _)
           ∙ readable-checked question.Refused bytes _ (g .readable)
 
-      pub related-answer : first ≢ second → {relation : Relation} {touch : Bool} → relation ≡ relationOf (labelAt (take n found)) first second
-          → Tells touch (Touch (roomAt (labelAt (take n found)) (length (take n found)) first) (roomAt (labelAt (take n found)) (length (take n found)) second))
+      pub related-answer : first ≢ second → {relation : Relation} {touch : Bool} → relation ≡ relationOf f first second → Tells touch (Touch (roomAt f (kindOf bytes) first) (roomAt f (kindOf bytes) second))
           → question.Related relation touch ≡ questionAnswer bytes first second
       related-answer differ {relation} {touch} related touches =
-          (λ i. question.Related (relation-is i) (touch-is i))
+          (λ i. question.Related (related i) (sym (tells-holds (dec-touch (roomAt f (kindOf bytes) first) (roomAt f (kindOf bytes) second)) touch touches) i))
           ∙ sym (if-neg (dec-outside first second (kindOf bytes)) inside-kind _ _ ∙ if-neg (ℕ-discrete first second) differ _ _)
           ∙ readable-checked question.Refused bytes _ (g .readable)
-        where
-          relation-is : relation ≡ relationOf (labelAt (labelsOf bytes)) first second
-          relation-is = related ∙ ap (λ (labels : List ℕ). relationOf (labelAt labels) first second) (g .list)
-
-          touch-is : touch ≡ holds (dec-touch (roomAt f (kindOf bytes) first) (roomAt f (kindOf bytes) second))
-          touch-is =
-              sym (tells-holds (dec-touch (roomAt (labelAt (take n found)) (length (take n found)) first) (roomAt (labelAt (take n found)) (length (take n found)) second)) touch touches)
-              ∙ (λ i. holds (dec-touch (roomAt (labelAt (g .list i)) ((g .size ∙ g .kind) i) first) (roomAt (labelAt (g .list i)) ((g .size ∙ g .kind) i) second)))
 
   -- ---- Record in's answers
   module _ (labels left bottom right top : ℕ) where
@@ -117,14 +92,3 @@ module _ {bytes found : List ℕ} {n : ℕ} (g : Given bytes found n) where
         ap recordIn.Read (g .kind)
         ∙ sym (if-neg (dec-short (kindOf bytes) labels left bottom right top) (λ s. h (subst (λ (m : ℕ). Short m labels left bottom right top) (sym (g .kind)) s)) _ _)
         ∙ readable-checked recordIn.Refused bytes _ (g .readable)
-
-    pub all-long : n ≤ labels → n ≤ left → n ≤ bottom → n ≤ right → n ≤ top → ¬ Short n labels left bottom right top
-    all-long a b c d e (inl h) = omega arith
-    all-long a b c d e (inr (inl h)) = omega arith
-    all-long a b c d e (inr (inr (inl h))) = omega arith
-    all-long a b c d e (inr (inr (inr (inl h)))) = omega arith
-    all-long a b c d e (inr (inr (inr (inr h)))) = omega arith
-
-  -- a part that is made of the labels, from the front of a slice
-  pub front : (part : List ℕ → List ℕ) (before : List ℕ) → part (take n found) ++ drop (length (take n found)) before ≡ part (labelsOf bytes) ++ drop n before
-  front part before = λ i. part (g .list i) ++ drop (g .size i) before

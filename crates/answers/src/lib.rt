@@ -1,12 +1,12 @@
 // What a record is asked for: Record in gives its labels and its rooms, the question how two of its rooms stand to each other.
-ghost use mathlib.Core.List.{_++_};
 ghost use mathlib.Core.Path.{_≡_};
 ghost use Prim.Native.Nat.{_≤_};
-ghost use lib.ListN.{length, drop};
+ghost use lib.ListN.{length, getD};
 ghost use Rattle.finite.specs.Decide.{Tells};
+ghost use Rattle.finite.specs.Fill.{filled};
 ghost use Rattle.record.specs.Read.{labelsOf};
 ghost use Rattle.drawing.specs.Corners.{leftsOf, bottomsOf, rightsOf, topsOf};
-ghost use Rattle.answers.specs.Answer.{recordAnswer, Few, written, questionAnswer, Outside};
+ghost use Rattle.answers.specs.Answer.{Short, recordAnswer, Few, written, questionAnswer, Outside};
 use drawing::Relation;
 use reading::Reading;
 use record::Position;
@@ -24,17 +24,42 @@ pub enum QuestionAnswer {
     Refused(Refusal),
 }
 
-// Writes numbers from the front of a slice, which has the room, and leaves the rest of it.
-fn put_front(numbers: &[u8], slice: &mut [u8])
-    requires { ⌜ length (now numbers) ≤ length (now slice) ⌝ }
-    ensures { λ _. ⌜ now (slice .exit) ≡ now (numbers .entry) ++ drop (length (now (numbers .entry))) (now (slice .entry)) ⌝ }
+// A byte as a corner.
+fn corner(byte: u8) -> u16
+    ensures { λ r. ⌜ r ≡ byte ⌝ }
 {
-    let n = numbers.len();
+    byte as u16
+}
+
+// Writes the first `n` numbers from the front of a slice, which has the room, and leaves the rest of it.
+fn put_front(numbers: &[u8; 255], n: usize, slice: &mut [u16])
+    requires { ⌜ (n ≤ 255) × (n ≤ length (now slice)) ⌝ }
+    ensures { λ _. ⌜ now (slice .exit) ≡ filled (λ i. getD (now (numbers .entry)) i 0) n (now (slice .entry)) ⌝ }
+{
     let mut i = 0;
     while i < n {
-        slice[i] = numbers[i];
+        slice[i] = corner(numbers[i]);
         i += 1;
     }
+}
+
+// Whether one of the five output slices has fewer than `n` places.
+fn short(n: usize, labels: usize, left: usize, bottom: usize, right: usize, top: usize) -> bool
+    ensures { λ r. ⌜ Tells r (Short n labels left bottom right top) ⌝ }
+{
+    if labels < n {
+        return true;
+    }
+    if left < n {
+        return true;
+    }
+    if bottom < n {
+        return true;
+    }
+    if right < n {
+        return true;
+    }
+    top < n
 }
 
 // Record in: the labels and the corners of the rooms by position, from the front of their slices; or the refusal, and the slices as they were.
@@ -53,28 +78,25 @@ pub fn record_in(
     ensures rights { λ r. ⌜ now (right .exit) ≡ written r (rightsOf (labelsOf (now («record» .entry)))) (now (right .entry)) ⌝ }
     ensures tops { λ r. ⌜ now (top .exit) ≡ written r (topsOf (labelsOf (now («record» .entry)))) (now (top .entry)) ⌝ }
 {
-    let mut found = [0u8; 255];
-    match reading::read(record, &mut found) {
+    let mut lower = [0u8; 255];
+    let mut lefts = [0u8; 255];
+    let mut bottoms = [0u8; 255];
+    match reading::check(record, &mut lower, &mut lefts, &mut bottoms) {
         Reading::Refused(refusal) => RecordAnswer::Refused(refusal),
         Reading::Read(n) => {
-            if labels.len() < n {
+            if short(
+                n,
+                labels.len(),
+                left.len(),
+                bottom.len(),
+                right.len(),
+                top.len(),
+            ) {
                 return RecordAnswer::Refused(Refusal::ShortOutput);
             }
-            if left.len() < n {
-                return RecordAnswer::Refused(Refusal::ShortOutput);
-            }
-            if bottom.len() < n {
-                return RecordAnswer::Refused(Refusal::ShortOutput);
-            }
-            if right.len() < n {
-                return RecordAnswer::Refused(Refusal::ShortOutput);
-            }
-            if top.len() < n {
-                return RecordAnswer::Refused(Refusal::ShortOutput);
-            }
-            let list = &found[..n];
-            put_front(list, labels);
-            drawing::draw(list, left, bottom, right, top);
+            put_front(&lefts, n, left);
+            put_front(&bottoms, n, bottom);
+            reading::finish(record, n, &lower, labels, right, top);
             RecordAnswer::Read(n)
         }
     }
@@ -84,11 +106,12 @@ pub fn record_in(
 pub fn question(record: &[u8], first: u8, second: u8) -> QuestionAnswer
     ensures { λ r. ⌜ r ≡ questionAnswer (now («record» .entry)) first second ⌝ }
 {
-    let mut found = [0u8; 255];
-    match reading::read(record, &mut found) {
+    let mut lower = [0u8; 255];
+    let mut left = [0u8; 255];
+    let mut bottom = [0u8; 255];
+    match reading::check(record, &mut lower, &mut left, &mut bottom) {
         Reading::Refused(refusal) => QuestionAnswer::Refused(refusal),
         Reading::Read(n) => {
-            let list = &found[..n];
             if outside(first, n) {
                 return QuestionAnswer::Refused(Refusal::PositionOutside);
             }
@@ -98,11 +121,14 @@ pub fn question(record: &[u8], first: u8, second: u8) -> QuestionAnswer
             if first == second {
                 return QuestionAnswer::Refused(Refusal::SamePosition);
             }
-            let one = Position(first);
-            let other = Position(second);
-            let relation = drawing::relation_of(list, one, other);
-            let touch = drawing::touch(drawing::room_at(list, one), drawing::room_at(list, other));
-            QuestionAnswer::Related(relation, touch)
+            let mut labels = [0u8; 255];
+            let mut right = [0u16; 255];
+            let mut top = [0u16; 255];
+            reading::finish(record, n, &lower, &mut labels, &mut right, &mut top);
+            let relation = drawing::relation_of(&labels, Position(first), Position(second));
+            let one = drawing::room_in(&left, &bottom, &right, &top, Position(first));
+            let other = drawing::room_in(&left, &bottom, &right, &top, Position(second));
+            QuestionAnswer::Related(relation, drawing::touch(one, other))
         }
     }
 }

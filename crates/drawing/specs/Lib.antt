@@ -6,6 +6,7 @@ pub mod Touch
 pub mod Corners
 -- Theorems, and what they rest on
 pub mod Nearest
+pub mod Walked
 pub mod Squares
 pub mod Tiling
 -- The sheet's worked drawing

@@ -1,17 +1,13 @@
-// A room of a floorplan, how two rooms stand to each other, and the grid drawing of a label list.
-// The drawing's definitions and theorems stand in specs/.
+// A room of a floorplan, and how two rooms stand to each other. The definitions of the grid drawing and its theorems stand in specs/.
 ghost use mathlib.Core.Path.{_≡_};
-ghost use mathlib.Core.List.{_++_};
 ghost use mathlib.Core.Logic.{_≢_};
-ghost use Prim.Native.Nat.{ℕ, suc, _-_, _<_, _≤_};
-ghost use lib.ListN.{length, getD, drop};
+ghost use Prim.Native.Nat.{suc, _≤_};
+ghost use lib.ListN.{length};
 ghost use Rattle.finite.specs.Decide.{Tells};
 ghost use Rattle.record.specs.Labels.{labelAt};
-ghost use Rattle.drawing.specs.Drawing.{leftAt, topAt, roomAt};
+ghost use Rattle.drawing.specs.Corners.{roomIn};
 ghost use Rattle.drawing.specs.Relation.{relationOf};
 ghost use Rattle.drawing.specs.Touch.{Overlap, SideBySide, Stacked, Touch};
-ghost use Rattle.drawing.specs.Corners.{leftsOf, bottomsOf, rightsOf, topsOf, filled, Found, Bytes};
-ghost use Rattle.drawing.specs.Corners.{turnedOver, turnedRound, turnedBack, Beyond, beforeAt, laterAt};
 use record::Position;
 
 // "A room is four unsigned 16-bit numbers: left, bottom, right, top. Right is greater
@@ -33,123 +29,14 @@ pub enum Relation {
     Below,
 }
 
-// ---- the drawing of a whole list
-
-// A position that was found, as a number to count with.
-fn wide(found: u16) -> usize
-    ensures { λ r. ⌜ r ≡ found ⌝ }
-{
-    found as usize
-}
-
-// The last position before the one at index `i` with a smaller label, 0 if none.
-// Where the label at a position is no smaller, what was found for that position comes next: the labels between the two are no smaller either.
-fn hop(labels: &[u8], found: &[u16], i: usize) -> usize
-    requires { ⌜ (i < length (now labels)) × (i ≤ length (now found)) ⌝ ∗ ⌜ Found (now found) (now labels) i ⌝ }
-    ensures { λ r. ⌜ (r ≤ i) × (r ≡ leftAt (labelAt (now (labels .entry))) (suc i)) ⌝ }
-{
-    let label = labels[i];
-    let mut j = i;
-    while 0 < j {
-        let at = j - 1;
-        if labels[at] < label {
-            break;
-        }
-        j = wide(found[at]);
-    }
-    j
-}
-
-// For each of the first `n` positions the last one before it with a smaller label, 0 if none.
-// All hops together are at most n, since a position that a hop leaves is never come to again.
-fn last_smaller(labels: &[u8], n: usize, found: &mut [u16])
-    requires { ⌜ (n ≤ 255) × (n ≤ length (now labels)) × (n ≤ length (now found)) ⌝ }
-    ensures { λ _. ⌜ now (found .exit) ≡ filled (λ i. leftAt (labelAt (now (labels .entry))) (suc i)) n (now (found .entry)) ⌝ }
-{
-    let mut i = 0;
-    while i < n {
-        found[i] = hop(labels, found, i) as u16;
-        i += 1;
-    }
-}
-
-// A label turned over: the larger of two becomes the smaller.
-fn flip(label: u8) -> u8
-    ensures { λ r. ⌜ (label ≤ 255) × (r ≡ 255 - label) ⌝ }
-{
-    255 - label
-}
-
-// The labels turned over, so that larger ones are found as smaller ones are.
-fn turn_over(labels: &[u8], over: &mut [u8; 255])
-    requires { ⌜ (length (now labels) ≤ 255) × (length (now over) ≡ 255) ⌝ }
-    ensures { λ _. ⌜ now (over .exit) ≡ filled (turnedOver (now (labels .entry))) (length (now (labels .entry))) (now (over .entry)) ⌝
-        ∗ ⌜ (length (now (over .exit)) ≡ 255) × Bytes (now (labels .entry)) (length (now (labels .entry))) ⌝ }
-{
-    let mut i = 0;
-    while i < labels.len() {
-        over[i] = flip(labels[i]);
-        i += 1;
-    }
-}
-
-// The first `n` labels turned round, so that later positions are found as earlier ones are.
-fn turn_round(labels: &[u8], n: usize, round: &mut [u8; 255])
-    requires { ⌜ (n ≤ 255) × (n ≤ length (now labels)) × (length (now round) ≡ 255) ⌝ }
-    ensures { λ _. ⌜ now (round .exit) ≡ filled (turnedRound (now (labels .entry)) n) n (now (round .entry)) ⌝
-        ∗ ⌜ length (now (round .exit)) ≡ 255 ⌝ }
-{
-    let mut i = 0;
-    while i < n {
-        round[i] = labels[n - 1 - i];
-        i += 1;
-    }
-}
-
-// What was found in the list turned round, from there to the list itself: a last position before becomes a first one later, less 1.
-fn turn_back(found: &[u16; 255], n: usize, tops: &mut [u16])
-    requires { ⌜ (n ≤ 255) × (length (now found) ≡ 255) × (n ≤ length (now tops)) ⌝ ∗ ⌜ ((k : ℕ) → k < n → getD (now found) k 0 ≤ n) ⌝ }
-    ensures { λ _. ⌜ now (tops .exit) ≡ filled (turnedBack (now (found .entry)) n) n (now (tops .entry)) ⌝ }
-{
-    let mut i = 0;
-    while i < n {
-        tops[i] = (n - wide(found[n - 1 - i])) as u16;
-        i += 1;
-    }
-}
-
-// For each of the first `n` positions the first later one with a smaller label, less 1; `n` if none.
-fn next_smaller(labels: &[u8], n: usize, found: &mut [u16])
-    requires { ⌜ (n ≤ 255) × (n ≤ length (now labels)) × (n ≤ length (now found)) ⌝ }
-    ensures { λ _. ⌜ now (found .exit) ≡ filled (λ i. topAt (labelAt (now (labels .entry))) n (suc i)) n (now (found .entry)) ⌝ }
-{
-    let mut round = [0; 255];
-    let mut back = [0; 255];
-    turn_round(labels, n, &mut round);
-    last_smaller(&round, n, &mut back);
-    turn_back(&back, n, found);
-}
-
-// The corners of all rooms, by position. Each is a nearest position with a smaller label, of the labels or of the labels turned over.
-pub fn draw(labels: &[u8], left: &mut [u16], bottom: &mut [u16], right: &mut [u16], top: &mut [u16])
-    requires { ⌜ length (now labels) ≤ 255 ⌝
-        ∗ ⌜ (length (now labels) ≤ length (now left)) × (length (now labels) ≤ length (now bottom)) ⌝
-        ∗ ⌜ (length (now labels) ≤ length (now right)) × (length (now labels) ≤ length (now top)) ⌝ }
-    ensures lefts { λ _. ⌜ now (left .exit) ≡ leftsOf (now (labels .entry)) ++ drop (length (now (labels .entry))) (now (left .entry)) ⌝ }
-    ensures bottoms { λ _. ⌜ now (bottom .exit) ≡ bottomsOf (now (labels .entry)) ++ drop (length (now (labels .entry))) (now (bottom .entry)) ⌝ }
-    ensures rights { λ _. ⌜ now (right .exit) ≡ rightsOf (now (labels .entry)) ++ drop (length (now (labels .entry))) (now (right .entry)) ⌝ }
-    ensures tops { λ _. ⌜ now (top .exit) ≡ topsOf (now (labels .entry)) ++ drop (length (now (labels .entry))) (now (top .entry)) ⌝ }
-{
-    let n = labels.len();
-    let mut over = [0; 255];
-    turn_over(labels, &mut over);
-    last_smaller(labels, n, left);
-    last_smaller(&over, n, bottom);
-    next_smaller(&over, n, right);
-    next_smaller(labels, n, top);
-}
-
 // ---- one room
+
+// A byte as a corner.
+fn corner(byte: u8) -> u16
+    ensures { λ r. ⌜ r ≡ byte ⌝ }
+{
+    byte as u16
+}
 
 // The index of a position: positions count from 1.
 fn index(position: Position) -> usize
@@ -159,59 +46,17 @@ fn index(position: Position) -> usize
     position.0 as usize - 1
 }
 
-// Whether the label is smaller than the other one, or larger where that is asked for.
-fn beyond(label: u8, than: u8, larger: bool) -> bool
-    ensures { λ r. ⌜ Tells r (Beyond larger label than) ⌝ }
-{
-    if larger {
-        return than < label;
-    }
-    label < than
-}
-
-// The last position before the one at index `i` whose label is smaller, or larger where that is asked for; 0 if none.
-fn last_before(labels: &[u8], i: usize, larger: bool) -> u16
-    requires { ⌜ (i < length (now labels)) × (length (now labels) ≤ 255) ⌝ }
-    ensures { λ r. ⌜ r ≡ beforeAt larger (labelAt (now (labels .entry))) (suc i) ⌝ }
-{
-    let label = labels[i];
-    let mut j = i;
-    while 0 < j {
-        if beyond(labels[j - 1], label, larger) {
-            break;
-        }
-        j -= 1;
-    }
-    j as u16
-}
-
-// The first later position whose label is smaller, or larger where that is asked for, less 1; the number of labels if none.
-fn first_later(labels: &[u8], i: usize, larger: bool) -> u16
-    requires { ⌜ (i < length (now labels)) × (length (now labels) ≤ 255) ⌝ }
-    ensures { λ r. ⌜ r ≡ laterAt larger (labelAt (now (labels .entry))) (length (now (labels .entry))) (suc i) ⌝ }
-{
-    let label = labels[i];
-    let mut j = i + 1;
-    while j < labels.len() {
-        if beyond(labels[j], label, larger) {
-            break;
-        }
-        j += 1;
-    }
-    j as u16
-}
-
-// The room at one position. For one room a scan each way is cheaper than the whole drawing.
-pub fn room_at(labels: &[u8], position: Position) -> Room
-    requires { ⌜ (length (now labels) ≤ 255) × (1 ≤ position .0) × (position .0 ≤ length (now labels)) ⌝ }
-    ensures { λ r. ⌜ r ≡ roomAt (labelAt (now (labels .entry))) (length (now (labels .entry))) (position .0) ⌝ }
+// The room at a position, of which the corners stand in lists by position.
+pub fn room_in(left: &[u8], bottom: &[u8], right: &[u16], top: &[u16], position: Position) -> Room
+    requires { ⌜ (1 ≤ position .0) × (position .0 ≤ length (now left)) × (position .0 ≤ length (now bottom)) × (position .0 ≤ length (now right)) × (position .0 ≤ length (now top)) ⌝ }
+    ensures { λ r. ⌜ r ≡ roomIn (now (left .entry)) (now (bottom .entry)) (now (right .entry)) (now (top .entry)) (position .0) ⌝ }
 {
     let i = index(position);
     Room {
-        left: last_before(labels, i, false),
-        bottom: last_before(labels, i, true),
-        right: first_later(labels, i, true),
-        top: first_later(labels, i, false),
+        left: corner(left[i]),
+        bottom: corner(bottom[i]),
+        right: right[i],
+        top: top[i],
     }
 }
 

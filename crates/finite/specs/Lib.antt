@@ -5,4 +5,5 @@ pub mod First
 pub mod Sum
 pub mod Count
 pub mod Table
+pub mod Fill
 pub mod Every

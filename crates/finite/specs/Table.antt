@@ -26,3 +26,9 @@ unfolding table
 take-table f m zero h = refl
 take-table f zero (suc k) h = absurd (not-suc-le-zero h)
 take-table f (suc m) (suc k) h = ap (λ (rest : List _). f 0 ∷ rest) (take-table (λ i. f (suc i)) m k (omega arith))
+
+-- two functions that agree as far as n
+pub table-same : {A : Type 0} (f g : ℕ → A) (n : ℕ) → ((i : ℕ) → i < n → f i ≡ g i) → table f n ≡ table g n
+unfolding table
+table-same f g zero h = refl
+table-same f g (suc n) h = λ j. h 0 (omega arith) j ∷ table-same (λ i. f (suc i)) (λ i. g (suc i)) n (λ i l. h (suc i) (omega arith)) j

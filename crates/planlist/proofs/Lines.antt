@@ -6,7 +6,8 @@ use native.Mathlib.Numerals.{add-one}
 use lib.ListN.{getD}
 use Rattle.record.specs.Labels.{labelAt}
 use Rattle.drawing.specs.declared.Room.{Room}
-use Rattle.planlist.specs.Put.{Put, roomIn}
+use Rattle.drawing.specs.Corners.{roomIn}
+use Rattle.planlist.specs.Put.{Put}
 use Rattle.planlist.specs.Text.{lineOf, linesOf}
 use Rattle.planlist.proofs.Puts.{put-none, put-more, put-as}
 

@@ -13,14 +13,13 @@ use Rattle.record.specs.Refusal.{numberOf}
 use Rattle.record.specs.Backward.{length-decode}
 use Rattle.record.specs.Checked.{checked, Sorted, refused, read, sorted, refused-checked, readable-checked}
 use Rattle.record.specs.declared.Refusal.{Refusal}
-use Rattle.drawing.specs.Corners.{leftsOf, bottomsOf, rightsOf, topsOf}
+use Rattle.drawing.specs.Corners.{leftsOf, bottomsOf, rightsOf, topsOf, roomIn}
 use Rattle.drawing.specs.Drawing.{leftAt, bottomAt, rightAt, topAt, roomAt}
 use Rattle.drawing.specs.declared.Room.{Room}
 use Rattle.answers.specs.Answer.{Short, dec-short, recordAnswer, written}
 use Rattle.answers.specs.declared.RecordAnswer.{RecordAnswer}
 use Rattle.answers.specs.declared.RecordAnswer.the-variants.{Read, Refused}
 use Rattle.planlist.specs.Text.{refusedLine, headOf, lineOf, linesOf, listing, textOf}
-use Rattle.planlist.specs.Put.{roomIn}
 
 -- what is printed for an answer of Record in, with the labels that it gave
 abbrev textFor : RecordAnswer → (labels : List ℕ) → List ℕ

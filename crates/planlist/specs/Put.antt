@@ -11,7 +11,3 @@ pub record Put (before : List ℕ) (at : ℕ) (part after : List ℕ) (end : ℕ
   pub next : end ≡ at + length part
   pub front : take end after ≡ take at before ++ part
   pub size : length after ≡ length before
-
--- the room at a position; `labelAt` reads any list by position
-abbrev pub roomIn : (left bottom right top : List ℕ) → (i : ℕ) → Room
-roomIn left bottom right top i = record { left = labelAt left i; bottom = labelAt bottom i; right = labelAt right i; top = labelAt top i }

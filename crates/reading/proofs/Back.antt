@@ -2,14 +2,11 @@
 -- run above, the label under it. A turn puts the label's own two runs on them as its bits say, and the run looked back at becomes the current one.
 use mathlib.Core.Bool.{Bool, true, false}
 use mathlib.Core.List.{List, [], _∷_}
-use mathlib.Core.Logic.{inl, inr}
 use mathlib.Core.Path.{_≡_, refl, sym, ap, subst, _∙_}
-use Prim.Native.Nat.{ℕ, zero, suc, _+_, _-_, _*_, _≤_, _<_}
+use Prim.Native.Nat.{ℕ, zero, suc, _+_, _-_, _≤_, _<_}
 use native.Mathlib.Omega.{arith}
 use lib.ListN.{length, getD, set, length-set, replicate, length-replicate}
-use lib.Seq.{getD-set-same, getD-set-other}
 use Rattle.bits.specs.Bit.{bit}
-use Rattle.finite.specs.Decide.{eq-or-ne}
 use Rattle.record.specs.Triple.{Triple, triple}
 use Rattle.record.specs.Walk.{Accepted}
 use Rattle.record.specs.Way.{Way, up, down, other}
@@ -19,9 +16,11 @@ use Rattle.record.specs.Decode.{bitsOf, turnOf, lowerSize, beside, met, firstRu
 use Rattle.record.specs.Backward.{decode-at, decoded-each, back-run}
 use Rattle.reading.specs.declared.Turn.{Turn}
 use Rattle.reading.specs.Turn.{Says, risesBy, fallsBy}
-use Rattle.reading.specs.Passes.{Lowers, Labelled}
-use Rattle.reading.proofs.Stack.{stackOf, length-stack, pushed, stack-pushed}
+use Rattle.reading.specs.Passes.{Lowers}
+use Rattle.record.specs.Positions.{pushed}
+use Rattle.reading.proofs.Stack.{stackOf, length-stack, stack-pushed, either, either-top}
 use Rattle.reading.proofs.Table.{once-risen}
+use Rattle.reading.proofs.Told.{bit-le, turnFor, says-turn}
 
 -- ---- a stack and the runs it stands for
 -- the number kept of a run
@@ -66,7 +65,7 @@ heightOf p q down = p
 record TakenOut (u : Triple) (below above : List ℕ) (p q : ℕ) (z : Runs) : Type 0 where
   enough-below : risesBy u ≤ p
   enough-above : fallsBy u ≤ q
-  lowest-is : risesBy u * getD below p 0 + fallsBy u * getD above q 0 + fallsBy u ≡ z .edge down
+  lowest-is : either (fallsBy u) (getD above q 0) (getD below p 0) + fallsBy u ≡ z .edge down
   holds-below : Holds down (stackOf below (p - risesBy u)) (z .stack down)
   holds-above : Holds up (stackOf above (q - fallsBy u)) (z .stack up)
 
@@ -111,75 +110,50 @@ back-some t (suc m) i accepted some h =
     subst (λ (d : ℕ). 1 ≤ bit (bitsOf u back) + length (runsBut t (suc m) d .stack back)) e (back-run t m accepted (i - 1) (omega arith))
 
 -- ---- the loop
--- where index i comes next: the labels past it are found, and the stacks and the lowest label are of the runs of the positions up to it
-pub record Left (t : ℕ → Triple) (n i : ℕ) (labels below above : List ℕ) (p q lowest : ℕ) : Type 0 where
+-- where index i comes next: the stacks and the lowest label are of the runs of the positions up to it
+pub record Left (t : ℕ → Triple) (n i : ℕ) (below above : List ℕ) (p q lowest : ℕ) : Type 0 where
   pub within : i < n
   pub lowest-is : lowest ≡ runsBut t n (n - suc i) .edge down
   pub holds-below : Holds down (stackOf below p) (runsBut t n (n - suc i) .stack down)
   pub holds-above : Holds up (stackOf above q) (runsBut t n (n - suc i) .stack up)
   pub few : p + q + suc i ≤ n
-  pub below-long : length below ≡ 256
-  pub above-long : length above ≡ 256
-  pub labels-long : length labels ≡ 255
-  pub done : (k : ℕ) → i < k → k < n → getD labels k 0 ≡ labelOf t n (suc k)
+  pub below-long : length below ≡ 255
+  pub above-long : length above ≡ 255
 
-pub left-first : (t : ℕ → Triple) (n : ℕ) (labels : List ℕ) → 1 ≤ n → length labels ≡ 255 → Left t n (n - 1) labels (replicate 256 0) (replicate 256 0) 0 0 1
+pub left-first : (t : ℕ → Triple) (n : ℕ) → 1 ≤ n → Left t n (n - 1) (replicate 255 0) (replicate 255 0) 0 0 1
 unfolding runsBut stackOf
-left-first t n labels some long = record {
+left-first t n some = record {
   within = omega arith;
   lowest-is = ap (λ (d : ℕ). runsBut t n d .edge down) start;
   holds-below = subst (λ (d : ℕ). Holds down [] (runsBut t n d .stack down)) start none;
   holds-above = subst (λ (d : ℕ). Holds up [] (runsBut t n d .stack up)) start none;
   few = omega arith;
-  below-long = length-replicate {A = ℕ} 256 0;
-  above-long = length-replicate {A = ℕ} 256 0;
-  labels-long = long;
-  done = λ k a b. absurd (omega arith);
+  below-long = length-replicate {A = ℕ} 255 0;
+  above-long = length-replicate {A = ℕ} 255 0;
 }
   where
     start : 0 ≡ n - suc (n - 1)
     start = omega arith
 
 -- after the last turn the first position's label stands alone in its run, and is its lowest
-pub left-last : {t : ℕ → Triple} {n i : ℕ} {labels below above : List ℕ} {p q lowest : ℕ} → Left t n i labels below above p q lowest → i ≡ 0 → Labelled t n (set labels 0 lowest)
+pub left-last : {t : ℕ → Triple} {n i : ℕ} {below above : List ℕ} {p q lowest : ℕ} → Left t n i below above p q lowest → i ≡ 0 → lowest ≡ labelOf t n 1
 unfolding labelOf lowerSize
-left-last {t} {n} {i} {labels} {lowest = lowest} s e zero h =
-    let d : n - suc i ≡ n - 1 = omega arith in
-    getD-set-same labels 0 lowest 0 (omega (arith, s .labels-long)) ∙ s .lowest-is ∙ ap (λ (d : ℕ). runsBut t n d .edge down) d ∙ omega arith
-left-last {labels = labels} {lowest = lowest} s e (suc k) h = getD-set-other labels 0 (suc k) lowest 0 (omega arith) ∙ s .done (suc k) (omega arith) h
+left-last {t} {n} {i} s e = let d : n - suc i ≡ n - 1 = omega arith in s .lowest-is ∙ ap (λ (d : ℕ). runsBut t n d .edge down) d ∙ omega arith
 
 -- ---- one turn
-bit-le : (b : Bool) → bit b ≤ 1
-bit-le true = omega arith
-bit-le false = omega arith
-
--- a triple in numbers
-turnFor : Triple → Turn
-turnFor u = record { above = bit (bitsOf u up); below = bit (bitsOf u down); rises = risesBy u; falls = fallsBy u }
-
-says-turn : {u : Triple} {turn : Turn} → Says u turn → turnFor u ≡ turn
-unfolding turnFor
-says-turn s = λ k. record { above = sym (s .above-is) k; below = sym (s .below-is) k; rises = sym (s .rises-is) k; falls = sym (s .falls-is) k }
-
--- the current run's lowest label before the turn's label came, as the code reads it off the tops of the stacks: one of its two products is 0
-abbrev pub lowestBefore : Turn → (below above : List ℕ) (p q : ℕ) → ℕ
-lowestBefore turn below above p q = turn .rises * getD below p 0 + turn .falls * getD above q 0 + turn .falls
-
--- a turn at index i, of which p and q are the stacks' heights with the label's own runs on them
-pub record Turned (t : ℕ → Triple) (n i : ℕ) (labels below above : List ℕ) (p q : ℕ) (turn : Turn) : Type 0 where
-  pub room-below : p < 256
-  pub room-above : q < 256
+-- a turn at index i, of which p and q are the stacks' heights with the label's own runs on them, and lowest is the current run's lowest label before it
+pub record Turned (t : ℕ → Triple) (n i : ℕ) (below above : List ℕ) (p q lowest : ℕ) (turn : Turn) : Type 0 where
   pub enough-below : turn .rises ≤ p
   pub enough-above : turn .falls ≤ q
-  pub lowest-small : lowestBefore turn below above p q < 256
-  pub after : Left t n (i - 1) labels below above (p - turn .rises) (q - turn .falls) (lowestBefore turn below above p q)
+  pub lowest-small : lowest < 256
+  pub after : Left t n (i - 1) below above (p - turn .rises) (q - turn .falls) lowest
 
-module _ {t : ℕ → Triple} {n i : ℕ} {labels below above : List ℕ} {p q lowest : ℕ} (s : Left t n i labels below above p q lowest) (accepted : Accepted t n) (small : n ≤ 255)
+module _ {t : ℕ → Triple} {n i : ℕ} {below above : List ℕ} {p q lowest : ℕ} (s : Left t n i below above p q lowest) (accepted : Accepted t n) (small : n ≤ 255)
     (lower : List ℕ) (lowers : Lowers t n lower) where
   abbrev label : ℕ
   label = lowest + getD lower i 0
 
-  label-is : label ≡ labelOf t n (suc i)
+  pub label-is : label ≡ labelOf t n (suc i)
   unfolding labelOf
   label-is = omega (arith, s .lowest-is, lowers i (s .within))
 
@@ -229,33 +203,36 @@ module _ {t : ℕ → Triple} {n i : ℕ} {labels below above : List ℕ} {p q l
         (holds-met (bitsOf u up) above q label (y .edge down + size) (y .edge up) (omega (arith, s .above-long, s .few)) (omega (arith, s .lowest-is, size-is)) (s .holds-above))
         (omega (arith, height (other (turnOf u)), back-some t n i accepted more (s .within))))
 
-    turned-out : Turned t n i (set labels i label) below-next above-next under over (turnFor u)
+    -- the lowest label as the code chooses it
+    abbrev lowestBefore : Turn → ℕ
+    lowestBefore turn = either (turn .falls) (either (turn .above) label (getD above q 0)) (either (turn .below) lowest (getD below p 0)) + turn .falls
+
+    lowest-before : lowestBefore (turnFor u) ≡ runsBut t n (n - suc (i - 1)) .edge down
+    unfolding turnFor
+    lowest-before =
+        (λ k. either (fallsBy u) (either-top above q label (bit (bitsOf u up)) (bit-le (bitsOf u up)) (omega (arith, s .above-long, s .few)) k) (either-top below p lowest (bit (bitsOf u down)) (bit-le (bitsOf u down)) (omega (arith, s .below-long, s .few)) k) + fallsBy u)
+        ∙ out .lowest-is
+
+    turned-out : Turned t n i below-next above-next under over (lowestBefore (turnFor u)) (turnFor u)
     unfolding turnFor labelOf
     turned-out = record {
-      room-below = omega (arith, s .few, bit-le (bitsOf u down));
-      room-above = omega (arith, s .few, bit-le (bitsOf u up));
       enough-below = out .enough-below;
       enough-above = out .enough-above;
-      lowest-small = omega (arith, out .lowest-is, label-few t n (i - 1) accepted (omega (arith, s .within)));
+      lowest-small = omega (arith, lowest-before, label-few t n (i - 1) accepted (omega (arith, s .within)));
       after = record {
         within = omega (arith, s .within);
-        lowest-is = out .lowest-is;
+        lowest-is = lowest-before;
         holds-below = out .holds-below;
         holds-above = out .holds-above;
         few = omega (arith, s .few, out .enough-below, out .enough-above, once-risen u, bit-le (bitsOf u down), bit-le (bitsOf u up));
         below-long = length-set below (p + 1) lowest ∙ s .below-long;
         above-long = length-set above (q + 1) label ∙ s .above-long;
-        labels-long = length-set labels i label ∙ s .labels-long;
-        done = done;
       };
     }
-      where
-        done : (k : ℕ) → i - 1 < k → k < n → getD (set labels i label) k 0 ≡ labelOf t n (suc k)
-        done k a b = elim (eq-or-ne k i) [
-          | inl e ↦ subst (λ (k : ℕ). getD (set labels i label) k 0 ≡ labelOf t n (suc k)) (sym e) (getD-set-same labels i label 0 (omega (arith, s .within, s .labels-long)) ∙ label-is)
-          | inr d ↦ getD-set-other labels i k label 0 d ∙ s .done k (omega arith) b
-        ]
 
-    pub turned : (turn : Turn) → Says u turn → Turned t n i (set labels i label) below-next above-next (p + turn .below) (q + turn .above) turn
+    pub turned : {turn : Turn} {low high choice : ℕ} → Says u turn → low ≡ either (turn .below) lowest (getD below p 0) → high ≡ either (turn .above) label (getD above q 0)
+        → choice ≡ either (turn .falls) high low → Turned t n i below-next above-next (p + turn .below) (q + turn .above) (choice + turn .falls) turn
     unfolding turnFor
-    turned turn says = subst (λ (turn : Turn). Turned t n i (set labels i label) below-next above-next (p + turn .below) (q + turn .above) turn) (says-turn says) turned-out
+    turned {turn} {low} {high} says l h c =
+        subst (λ (x : ℕ). Turned t n i below-next above-next (p + turn .below) (q + turn .above) (x + turn .falls) turn) (sym (c ∙ (λ k. either (turn .falls) (h k) (l k))))
+        (subst (λ (turn : Turn). Turned t n i below-next above-next (p + turn .below) (q + turn .above) (lowestBefore turn) turn) (says-turn says) turned-out)

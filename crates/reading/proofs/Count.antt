@@ -1,8 +1,8 @@
 -- The forward pass: what it has after k turns, and what one more turn leaves.
-use mathlib.Core.Bool.{true, false}
+use mathlib.Core.Bool.{Bool, true, false}
 use mathlib.Core.List.{List, _∷_}
 use mathlib.Core.Logic.{inl, inr}
-use mathlib.Core.Path.{_≡_, refl, sym, ap, subst, _∙_}
+use mathlib.Core.Path.{_≡_, refl, sym, ap, subst, subst₂, _∙_}
 use Prim.Native.Nat.{ℕ, zero, suc, _+_, _*_, _≤_, _<_}
 use native.Mathlib.Omega.{arith}
 use native.Mathlib.Numerals.{add-one}
@@ -18,7 +18,7 @@ use Rattle.record.specs.Decode.{bitsOf, Sizes, sizesAhead, joinedSize, growSize
 use Rattle.record.specs.Backward.{size-small}
 use Rattle.reading.specs.declared.Turn.{Turn}
 use Rattle.reading.specs.Turn.{Says, risesBy, fallsBy}
-use Rattle.reading.proofs.Stack.{stackOf, stack-pushed, joined-top, rest-stack}
+use Rattle.reading.proofs.Stack.{stackOf, stack-pushed, either, either-top, joined-top, rest-stack}
 use Rattle.reading.proofs.Table.{Meets, step-meets, once-risen}
 
 pub record Counted (t : ℕ → Triple) (k : ℕ) (lower below above : List ℕ) (runs-below runs-above size : ℕ) : Type 0 where
@@ -29,10 +29,10 @@ pub record Counted (t : ℕ → Triple) (k : ℕ) (lower below above : List ℕ)
   pub above-is : sizesAfter t k .others up ≡ stackOf above runs-above
   pub lowers : (i : ℕ) → i < suc k → getD lower i 0 ≡ lowerSize t (suc i)
   pub room-lower : length lower ≡ 255
-  pub room-below : length below ≡ 256
-  pub room-above : length above ≡ 256
+  pub room-below : length below ≡ 255
+  pub room-above : length above ≡ 255
 
-pub counted-first : (t : ℕ → Triple) (lower below above : List ℕ) → length lower ≡ 255 → length below ≡ 256 → length above ≡ 256 → Counted t 0 (set lower 0 0) below above 0 0 1
+pub counted-first : (t : ℕ → Triple) (lower below above : List ℕ) → length lower ≡ 255 → length below ≡ 255 → length above ≡ 255 → Counted t 0 (set lower 0 0) below above 0 0 1
 unfolding walk sizesAfter lowerSize stackOf
 counted-first t lower below above a b c = record {
   walked = refl;
@@ -49,13 +49,6 @@ counted-first t lower below above a b c = record {
     first : (i : ℕ) → i < 1 → getD (set lower 0 0) i 0 ≡ lowerSize t (suc i)
     first zero h = getD-set-same lower 0 0 0 (omega arith)
     first (suc i) h = absurd (omega arith)
-
--- what a triple says, in numbers
-abbrev sayOf : Triple → Turn
-sayOf u = record { above = bit (bitsOf u up); below = bit (bitsOf u down); rises = risesBy u; falls = fallsBy u }
-
-says-is : {u : Triple} {turn : Turn} → Says u turn → sayOf u ≡ turn
-says-is s = λ i. record { above = sym (s .above-is) i; below = sym (s .below-is) i; rises = sym (s .rises-is) i; falls = sym (s .falls-is) i }
 
 module _ {t : ℕ → Triple} {k : ℕ} {lower below above : List ℕ} {p q size : ℕ} (now : Counted t k lower below above p q size) (more : k < 254) where
   abbrev u : Triple
@@ -91,7 +84,7 @@ module _ {t : ℕ → Triple} {k : ℕ} {lower below above : List ℕ} {p q size
 
   -- where the table goes on
   module _ {p-next q-next : ℕ} (goes : step u p q ≡ counts p-next q-next) where
-    meets : Meets u p q (counts p-next q-next)
+    pub meets : Meets u p q (counts p-next q-next)
     meets = subst (Meets u p q) goes (step-meets u p q)
 
     abbrev labels-below : ℕ
@@ -133,12 +126,30 @@ module _ {t : ℕ → Triple} {k : ℕ} {lower below above : List ℕ} {p q size
           | inr e ↦ getD-set-other lower (k + 1) i labels-below 0 e ∙ now .lowers i (omega arith)
         ]
 
-    -- ---- the same with what the code was told of the triple
-    module _ (turn : Turn) (says : Says u turn) where
-      pub small : 1 + turn .below * getD below-next (p + turn .rises) 0 + turn .above * getD above-next (q + turn .falls) 0 ≤ 255
-      small = subst (λ (w : Turn). 1 + w .below * getD below-next (p + w .rises) 0 + w .above * getD above-next (q + w .falls) 0 ≤ 255) (says-is says) small-plain
+    -- ---- the same with what the code was told of the triple, and with what it chose
+    module _ (turn : Turn) (says : Says u turn) {under over lower-now upper-now : ℕ} (under-is : under ≡ either (turn .rises) size (getD below p 0))
+        (over-is : over ≡ either (turn .falls) size (getD above q 0)) (lower-now-is : lower-now ≡ either (turn .below) under 0)
+        (upper-now-is : upper-now ≡ either (turn .above) over 0) where
+      -- what is joined on one side, as it was chosen, is what the stack has at its top
+      chosen-is : {b r x now : ℕ} (stack : List ℕ) (h : ℕ) (joins : Bool) (meets : ℕ) → b ≡ bit joins → r ≡ meets → meets ≤ 1 → h + 1 < length stack → x ≡ either r size (getD stack h 0)
+          → now ≡ either b x 0 → now ≡ bit joins * getD (set stack (h + 1) size) (h + meets) 0
+      chosen-is {x = x} stack h joins meets bs rs few room xs now-is = now-is ∙ ap (λ (b : ℕ). either b x 0) bs ∙ go joins
+        where
+          top : x ≡ getD (set stack (h + 1) size) (h + meets) 0
+          top = xs ∙ ap (λ (r : ℕ). either r size (getD stack h 0)) rs ∙ either-top stack h size meets few room
 
-      pub turned : Counted t (k + 1) (set lower (k + 1) (turn .below * getD below-next (p + turn .rises) 0)) below-next above-next p-next q-next
-          (1 + turn .below * getD below-next (p + turn .rises) 0 + turn .above * getD above-next (q + turn .falls) 0)
-      turned = subst (λ (w : Turn). Counted t (k + 1) (set lower (k + 1) (w .below * getD below-next (p + w .rises) 0)) below-next above-next p-next q-next
-          (1 + w .below * getD below-next (p + w .rises) 0 + w .above * getD above-next (q + w .falls) 0)) (says-is says) turned-plain
+          go : (joins : Bool) → either (bit joins) x 0 ≡ bit joins * getD (set stack (h + 1) size) (h + meets) 0
+          go true = omega (arith, top)
+          go false = omega arith
+
+      chosen-below : lower-now ≡ labels-below
+      chosen-below = chosen-is below p (bitsOf u down) (risesBy u) (says .below-is) (says .rises-is) (omega (arith, once-risen u)) (omega (arith, now .few, now .room-below)) under-is lower-now-is
+
+      chosen-above : upper-now ≡ labels-above
+      chosen-above = chosen-is above q (bitsOf u up) (fallsBy u) (says .above-is) (says .falls-is) (omega (arith, once-risen u)) (omega (arith, now .few, now .room-above)) over-is upper-now-is
+
+      pub small : 1 + lower-now + upper-now ≤ 255
+      small = omega (arith, small-plain, chosen-below, chosen-above)
+
+      pub turned : Counted t (k + 1) (set lower (k + 1) lower-now) below-next above-next p-next q-next (1 + lower-now + upper-now)
+      turned = subst₂ (λ (x y : ℕ). Counted t (k + 1) (set lower (k + 1) x) below-next above-next p-next q-next (1 + x + y)) (sym chosen-below) (sym chosen-above) turned-plain

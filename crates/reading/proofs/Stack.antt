@@ -2,7 +2,7 @@
 use mathlib.Core.Bool.{Bool, true, false}
 use mathlib.Core.List.{List, [], _∷_}
 use mathlib.Core.Path.{_≡_, refl, sym, ap, _∙_}
-use Prim.Native.Nat.{ℕ, zero, suc, _+_, _*_, _≤_, _<_}
+use Prim.Native.Nat.{ℕ, zero, suc, _+_, _-_, _*_, _≤_, _<_}
 use native.Mathlib.Omega.{arith}
 use native.Mathlib.Nat.{add-zero}
 use native.Mathlib.Numerals.{add-one}
@@ -11,6 +11,7 @@ use lib.Seq.{getD-set-same, getD-set-other}
 use Rattle.bits.specs.Bit.{bit}
 use Rattle.record.specs.Sides.{rest-of}
 use Rattle.record.specs.Decode.{joinedSize}
+use Rattle.record.specs.Positions.{pushed}
 
 -- the numbers in use, from the top
 unfoldable pub stackOf : List ℕ → ℕ → List ℕ
@@ -26,11 +27,6 @@ stack-kept : (s : List ℕ) (i h x : ℕ) → h < i → stackOf (set s i x) h �
 unfolding stackOf
 stack-kept s i zero x l = refl
 stack-kept s i (suc h) x l = λ j. getD-set-other s i (suc h) x 0 (omega arith) j ∷ stack-kept s i h x (omega arith) j
-
--- a number that is pushed or not
-abbrev pub pushed : Bool → ℕ → List ℕ → List ℕ
-pushed true x xs = x ∷ xs
-pushed false x xs = xs
 
 -- the number is stored above the top in any case; it is in use where it counts as pushed
 pub stack-pushed : (b : Bool) (s : List ℕ) (h x : ℕ) → h + 1 < length s → stackOf (set s (h + 1) x) (h + bit b) ≡ pushed b x (stackOf s h)
@@ -53,3 +49,13 @@ unfolding stackOf rest-of
 rest-stack false s h left e = let same : h ≡ left = omega arith in ap (stackOf s) same
 rest-stack true s zero left e = absurd (omega arith)
 rest-stack true s (suc h) left e = let same : h ≡ left = omega arith in ap (stackOf s) same
+
+-- one of two numbers, as a bit says
+abbrev pub either : (b x y : ℕ) → ℕ
+either b x y = b * x + (1 - b) * y
+
+-- what is at the top after a number was stored above it: that number where it counts as pushed, else what was at the top
+pub either-top : (s : List ℕ) (h x b : ℕ) → b ≤ 1 → h + 1 < length s → either b x (getD s h 0) ≡ getD (set s (h + 1) x) (h + b) 0
+either-top s h x zero small l = omega (arith, ap (λ (i : ℕ). getD (set s (h + 1) x) i 0) (add-zero h), getD-set-other s (h + 1) h x 0 (omega arith))
+either-top s h x (suc zero) small l = omega (arith, getD-set-same s (h + 1) x 0 l)
+either-top s h x (suc (suc b)) small l = absurd (omega arith)

@@ -2,8 +2,9 @@
 -- Where it lies above the current run, that run is one more below it; where it lies below, one more above it.
 use mathlib.Core.Bool.{Bool, true, false}
 use mathlib.Core.List.{List}
-use mathlib.Core.Path.{_≡_, refl, ap, _∙_}
-use Prim.Native.Nat.{ℕ, zero, suc, _+_, _*_, _≤_}
+use mathlib.Core.Logic.{_≢_}
+use mathlib.Core.Path.{_≡_, refl, ap, ap₂, _∙_}
+use Prim.Native.Nat.{ℕ, zero, suc, _+_, _-_, _*_, _≤_}
 use native.Mathlib.Omega.{arith}
 use native.Mathlib.Nat.{add-zero}
 use Rattle.bits.specs.Bit.{bit, bitAt, groupAt}
@@ -13,7 +14,8 @@ use Rattle.record.specs.Way.{up, down}
 use Rattle.record.specs.Record.{tripleIn}
 use Rattle.record.specs.Decode.{bitsOf}
 use Rattle.reading.specs.declared.Turn.{Turn}
-use Rattle.reading.specs.Turn.{Says, tripleOf, risesBy, fallsBy}
+use Rattle.reading.specs.declared.Change.{Change}
+use Rattle.reading.specs.Turn.{Says, Changes, tripleOf, risesBy, fallsBy}
 
 -- a body's group is its triple's number
 pub group-triple : (body : List ℕ) (k : ℕ) → tripleOf (groupAt body k) ≡ tripleIn body (suc (suc k))
@@ -69,3 +71,52 @@ rises-small {t} s = omega (arith, s .rises-is, once-risen t)
 
 pub falls-small : {t : Triple} {turn : Turn} → Says t turn → turn .falls ≤ 1
 falls-small {t} s = omega (arith, s .falls-is, once-risen t)
+
+-- ---- how the counts change
+module _ {t : Triple} {change : Change} (c : Changes t change) where
+  pub changed-small : (change .below ≤ 2) × (change .above ≤ 2)
+  changed-small = omega (arith, c .below-is, c .above-is, once-risen t)
+
+  pub changed-missing-below : (p q : ℕ) → p + change .below ≡ 0 → step t p q ≡ missing
+  changed-missing-below p q e = go t p q (omega (arith, c .below-is)) (omega (arith, c .below-is))
+    where
+      go : (t : Triple) (p q : ℕ) → p ≡ 0 → bit (bitsOf t down) ≡ 1 + risesBy t → step t p q ≡ missing
+      go (triple first true true) zero q e h = lacks first q
+        where
+          lacks : (first : Bool) (q : ℕ) → step (triple first true true) zero q ≡ missing
+          lacks true q = unfold step in refl
+          lacks false q = unfold step in refl
+      go (triple first true true) (suc p) q e h = absurd (omega arith)
+      go (triple first true false) p q e h = absurd (omega arith)
+      go (triple first false third) p q e h = absurd (omega arith)
+
+  pub changed-missing-above : (p q : ℕ) → q + change .above ≡ 0 → step t p q ≡ missing
+  changed-missing-above p q e = go t p q (omega (arith, c .above-is)) (omega (arith, c .above-is))
+    where
+      go : (t : Triple) (p q : ℕ) → q ≡ 0 → bit (bitsOf t up) ≡ 1 + fallsBy t → step t p q ≡ missing
+      go (triple true second false) p zero e h = lacks second p
+        where
+          lacks : (second : Bool) (p : ℕ) → step (triple true second false) p zero ≡ missing
+          lacks true p = unfold step in refl
+          lacks false p = unfold step in refl
+      go (triple true second false) p (suc q) e h = absurd (omega arith)
+      go (triple true second true) p q e h = absurd (omega arith)
+      go (triple false second third) p q e h = absurd (omega arith)
+
+  pub changed-counts : (p q : ℕ) → p + change .below ≢ 0 → q + change .above ≢ 0 → step t p q ≡ counts (p + change .below - 1) (q + change .above - 1)
+  unfolding step
+  changed-counts p q a b = go t p q (change .below) (change .above) (c .below-is) (c .above-is) (omega arith) (omega arith)
+    where
+      go : (t : Triple) (p q x y : ℕ) → x + bit (bitsOf t down) ≡ 1 + risesBy t → y + bit (bitsOf t up) ≡ 1 + fallsBy t → 1 ≤ p + x → 1 ≤ q + y → step t p q ≡ counts (p + x - 1) (q + y - 1)
+      go (triple false false false) p q x y e f a b = ap₂ counts (omega arith) (omega arith)
+      go (triple false true false) p q x y e f a b = ap₂ counts (omega arith) (omega arith)
+      go (triple true false false) p zero x y e f a b = absurd (omega arith)
+      go (triple true false false) p (suc q) x y e f a b = ap₂ counts (omega arith) (omega arith)
+      go (triple true true false) p zero x y e f a b = absurd (omega arith)
+      go (triple true true false) p (suc q) x y e f a b = ap₂ counts (omega arith) (omega arith)
+      go (triple false false true) p q x y e f a b = ap₂ counts (omega arith) (omega arith)
+      go (triple true false true) p q x y e f a b = ap₂ counts (omega arith) (omega arith)
+      go (triple false true true) zero q x y e f a b = absurd (omega arith)
+      go (triple false true true) (suc p) q x y e f a b = ap₂ counts (omega arith) (omega arith)
+      go (triple true true true) zero q x y e f a b = absurd (omega arith)
+      go (triple true true true) (suc p) q x y e f a b = ap₂ counts (omega arith) (omega arith)

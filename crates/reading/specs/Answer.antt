@@ -1,17 +1,31 @@
--- What reading a record answers and leaves: the first refusal of "9, 10, 11, 14, 12, 13" whose cause the record has, else how many labels it gives, and the labels.
+-- What reading a record answers and leaves: the first refusal of "9, 10, 11, 14, 12, 13" whose cause the record has, else how many labels it gives, and what is noted of each.
 use mathlib.Core.List.{List}
 use mathlib.Core.Path.{_≡_}
 use Prim.Native.Nat.{ℕ, _≤_}
-use lib.ListN.{take}
-use Rattle.record.specs.Read.{kindOf, labelsOf}
-use Rattle.record.specs.Checked.{checked}
+use Rattle.record.specs.Triple.{Triple}
+use Rattle.record.specs.Way.{up, down}
+use Rattle.record.specs.Record.{tripleIn}
+use Rattle.record.specs.Read.{kindOf, bodyOf}
+use Rattle.record.specs.Checked.{checked, Readable}
+use Rattle.reading.specs.Passes.{Lowers, Starts}
 use Rattle.reading.specs.declared.Reading.{Reading}
 use Rattle.reading.specs.declared.Reading.the-variants.{Read, Refused}
 
 abbrev pub readingOf : List ℕ → Reading
 readingOf bytes = checked Refused bytes (Read (kindOf bytes))
 
--- the labels, at most 255, stand from the front of the array
-abbrev pub Reads : Reading → (bytes labels : List ℕ) → Type 0
-Reads (Read n) bytes labels = (n ≤ 255) × (take n labels ≡ labelsOf bytes)
-Reads (Refused refusal) bytes labels = Unit
+-- the triples of a record
+abbrev pub triplesOf : List ℕ → ℕ → Triple
+triplesOf bytes = tripleIn (bodyOf bytes)
+
+-- a record of n labels that is not refused, with what the pass back needs of each label
+pub record Ready (bytes : List ℕ) (n : ℕ) (lower : List ℕ) : Type 0 where
+  pub kind : n ≡ kindOf bytes
+  pub some : 1 ≤ n
+  pub few : n ≤ 255
+  pub readable : Readable bytes
+  pub lowers : Lowers (triplesOf bytes) n lower
+
+abbrev pub Reads : Reading → (bytes lower left bottom : List ℕ) → Type 0
+Reads (Read n) bytes lower left bottom = Ready bytes n lower × Starts down (triplesOf bytes) n left × Starts up (triplesOf bytes) n bottom
+Reads (Refused refusal) bytes lower left bottom = Unit

@@ -1,11 +1,14 @@
--- What the two passes over a body leave: the counts of runs and the lower sizes, and then the labels.
+-- What the two passes over a body leave. Forward: the counts of runs, and of each position the lower labels of its run and the newest positions in the runs next to
+-- its label. Backward: the labels, and of each position the one that first comes to lie beyond its run, less 1.
 use mathlib.Core.List.{List}
 use mathlib.Core.Path.{_≡_}
-use Prim.Native.Nat.{ℕ, suc, _<_}
-use lib.ListN.{getD}
+use Prim.Native.Nat.{ℕ, suc, _-_, _<_}
+use lib.ListN.{length, getD}
 use Rattle.record.specs.Triple.{Triple}
 use Rattle.record.specs.Walk.{Counts, missing, counts}
-use Rattle.record.specs.Decode.{lowerSize, labelOf}
+use Rattle.record.specs.Way.{Way, up, down}
+use Rattle.record.specs.Decode.{lowerSize}
+use Rattle.record.specs.Positions.{newestMet, enteredBut}
 use Rattle.reading.specs.declared.RunCounts.{RunCounts}
 use Rattle.reading.specs.declared.RunCounts.the-variants.{Counted, Missing}
 
@@ -17,10 +20,15 @@ endCounts Missing = missing
 abbrev pub Lowers : (ℕ → Triple) → (n : ℕ) → List ℕ → Type 0
 Lowers triples n lower = (i : ℕ) → i < n → getD lower i 0 ≡ lowerSize triples (suc i)
 
-abbrev pub Noted : RunCounts → (ℕ → Triple) → (n : ℕ) → List ℕ → Type 0
-Noted (Counted below above) triples n lower = Lowers triples n lower
-Noted Missing triples n lower = Unit
+-- of each position, in an array of 255, the newest one in the run next to its label on one side, 0 if there is none
+pub record Starts (way : Way) (triples : ℕ → Triple) (n : ℕ) (starts : List ℕ) : Type 0 where
+  pub size : length starts ≡ 255
+  pub at : (i : ℕ) → i < n → getD starts i 0 ≡ newestMet triples (suc i) way
 
--- the labels of the positions
-abbrev pub Labelled : (ℕ → Triple) → (n : ℕ) → List ℕ → Type 0
-Labelled triples n labels = (i : ℕ) → i < n → getD labels i 0 ≡ labelOf triples n (suc i)
+abbrev pub Noted : RunCounts → (ℕ → Triple) → (n : ℕ) → (lower left bottom : List ℕ) → Type 0
+Noted (Counted below above) triples n lower left bottom = Lowers triples n lower × Starts down triples n left × Starts up triples n bottom
+Noted Missing triples n lower left bottom = Unit
+
+-- of the position at an index, the one that first comes to lie beyond its run on one side, less 1; n if none does
+abbrev pub endAt : (ℕ → Triple) → (n : ℕ) → Way → (i : ℕ) → ℕ
+endAt triples n way i = enteredBut triples n (n - suc i) .current way

@@ -1,12 +1,13 @@
 -- A triple by its number 0 to 7, and what it says of the new label in numbers.
 use mathlib.Core.Bool.{true, false}
 use mathlib.Core.Path.{_≡_}
-use Prim.Native.Nat.{ℕ, zero, suc}
+use Prim.Native.Nat.{ℕ, zero, suc, _+_}
 use Rattle.bits.specs.Bit.{bit}
 use Rattle.record.specs.Triple.{Triple, triple}
 use Rattle.record.specs.Way.{up, down}
 use Rattle.record.specs.Decode.{bitsOf}
 use Rattle.reading.specs.declared.Turn.{Turn}
+use Rattle.reading.specs.declared.Change.{Change}
 
 -- the triple of a number, of which the first bit is worth 4; those past 7 are never asked for
 abbrev pub tripleOf : ℕ → Triple
@@ -32,3 +33,8 @@ pub record Says (t : Triple) (turn : Turn) : Type 0 where
   pub below-is : turn .below ≡ bit (bitsOf t down)
   pub rises-is : turn .rises ≡ risesBy t
   pub falls-is : turn .falls ≡ fallsBy t
+
+-- the counts of runs after a step are those before it, and this many more, less 1: the run that was current is met on one side, and the runs joined count no more
+pub record Changes (t : Triple) (change : Change) : Type 0 where
+  pub below-is : change .below + bit (bitsOf t down) ≡ 1 + risesBy t
+  pub above-is : change .above + bit (bitsOf t up) ≡ 1 + fallsBy t

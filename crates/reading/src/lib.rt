@@ -1,16 +1,21 @@
 // Reading a record: its labels, or the refusal 9, 10, 11, 14, 12 or 13, in this order.
 ghost use mathlib.Core.Path.{_≡_};
 ghost use mathlib.Core.Bool.{true};
-ghost use Prim.Native.Nat.{_+_, _-_, _*_, _/_, _≤_, _<_};
-ghost use lib.ListN.{length};
+ghost use mathlib.Core.List.{_++_};
+ghost use Prim.Native.Nat.{suc, _+_, _-_, _*_, _/_, _≤_, _<_};
+ghost use lib.ListN.{length, drop};
 ghost use Rattle.finite.specs.Decide.{Tells};
 ghost use Rattle.finite.specs.Search.{Some};
+ghost use Rattle.finite.specs.Fill.{filled};
 ghost use Rattle.bits.specs.Bit.{bitAt};
 ghost use Rattle.record.specs.Walk.{step as tableStep, walk, Accepted};
 ghost use Rattle.record.specs.Record.{bodyLength, tripleIn};
-ghost use Rattle.reading.specs.Turn.{Says, tripleOf};
-ghost use Rattle.reading.specs.Answer.{readingOf, Reads};
-ghost use Rattle.reading.specs.Passes.{endCounts, Noted, Lowers, Labelled};
+ghost use Rattle.record.specs.Way.{up, down};
+ghost use Rattle.record.specs.Decode.{labelOf};
+ghost use Rattle.record.specs.Read.{labelsOf};
+ghost use Rattle.reading.specs.Turn.{Says, Changes, tripleOf};
+ghost use Rattle.reading.specs.Answer.{readingOf, Reads, Ready, triplesOf};
+ghost use Rattle.reading.specs.Passes.{endCounts, Noted, Lowers, endAt};
 use record::Refusal;
 
 // A byte as an index.
@@ -18,6 +23,13 @@ fn wide(byte: u8) -> usize
     ensures { λ r. ⌜ (r ≡ byte) × (r ≤ 255) ⌝ }
 {
     byte as usize
+}
+
+// A byte as a corner.
+fn corner(byte: u8) -> u16
+    ensures { λ r. ⌜ r ≡ byte ⌝ }
+{
+    byte as u16
 }
 
 // What a triple says of the new label, each 1 or 0: it is joined to a run above it, to a run below it; it lies above the current run, below it.
@@ -48,51 +60,80 @@ enum RunCounts {
     Missing,
 }
 
-// The eight steps, by the triple's number: the next pair of run counts, or the run that the triple needs is missing.
+// What a triple makes of the two counts of runs: 2 where one more run is counted, 1 where as many, 0 where one less.
+struct Change {
+    below: usize,
+    above: usize,
+}
+
+// The eight steps, by the triple's number. The rows are numbers, so that the compiler makes a table of them and no jump.
+fn change_of(triple: u8) -> Change
+    requires { ⌜ triple < 8 ⌝ }
+    ensures { λ r. ⌜ Changes (tripleOf triple) r ⌝ }
+{
+    match triple {
+        0 => Change { below: 2, above: 1 },
+        1 => Change { below: 1, above: 2 },
+        2 => Change { below: 1, above: 1 },
+        3 => Change { below: 0, above: 2 },
+        4 => Change { below: 2, above: 0 },
+        5 => Change { below: 1, above: 1 },
+        6 => Change { below: 1, above: 0 },
+        _ => Change { below: 0, above: 1 },
+    }
+}
+
+// The next pair of run counts, or the run that the triple needs is missing.
 fn step(triple: u8, below: usize, above: usize) -> RunCounts
     requires { ⌜ (triple < 8) × (below ≤ 255) × (above ≤ 255) ⌝ }
     ensures { λ r. ⌜ endCounts r ≡ tableStep (tripleOf triple) below above ⌝ }
 {
-    match triple {
-        0 => RunCounts::Counted(below + 1, above),
-        1 => RunCounts::Counted(below, above + 1),
-        2 => RunCounts::Counted(below, above),
-        3 => if below == 0 {
-            RunCounts::Missing
-        } else {
-            RunCounts::Counted(below - 1, above + 1)
-        },
-        4 => if above == 0 {
-            RunCounts::Missing
-        } else {
-            RunCounts::Counted(below + 1, above - 1)
-        },
-        5 => RunCounts::Counted(below, above),
-        6 => if above == 0 {
-            RunCounts::Missing
-        } else {
-            RunCounts::Counted(below, above - 1)
-        },
-        _ => if below == 0 {
-            RunCounts::Missing
-        } else {
-            RunCounts::Counted(below - 1, above)
-        },
+    let change = change_of(triple);
+    let next_below = below + change.below;
+    let next_above = above + change.above;
+    if next_below == 0 {
+        return RunCounts::Missing;
     }
+    if next_above == 0 {
+        return RunCounts::Missing;
+    }
+    RunCounts::Counted(next_below - 1, next_above - 1)
 }
 
-// The walk, with the size of each run: a stack of sizes for the runs below and one for those above, the nearest run's on top. Each turn pushes the
-// current size on both; the counts of runs say how much of a stack is in use. Of each position, how many labels of its run lie below it is noted.
-fn forward(body: &[u8], n: usize, lower: &mut [u8; 255]) -> RunCounts
-    requires { ⌜ (1 ≤ n) × (n ≤ 255) × (length (now body) ≡ bodyLength n) ⌝ ∗ ⌜ length (now lower) ≡ 255 ⌝ }
-    ensures { λ r. ⌜ (endCounts r ≡ walk (tripleIn (now (body .entry))) (n - 1)) × Noted r (tripleIn (now (body .entry))) n (now (lower .exit)) ⌝ }
+// One of two numbers, as a bit says. The compiler makes no jump of it, which could not be foreseen.
+fn chosen(bit: u8, one: u8, zero: u8) -> u8
+    requires { ⌜ bit ≤ 1 ⌝ }
+    ensures { λ r. ⌜ r ≡ bit * one + (1 - bit) * zero ⌝ }
 {
-    let mut below = [0u8; 256];
-    let mut above = [0u8; 256];
+    if bit == 1 {
+        return one;
+    }
+    zero
+}
+
+// The walk, with the size and the newest position of each run: a stack of each for the runs below and one for those above, the nearest run's on top. Each
+// turn pushes the current run's on both; the counts of runs say how much of a stack is in use. Of each position, how many labels of its run lie below it is
+// noted, and the newest positions in the runs next below and next above its label.
+fn forward(
+    body: &[u8],
+    n: usize,
+    lower: &mut [u8; 255],
+    left: &mut [u8; 255],
+    bottom: &mut [u8; 255],
+) -> RunCounts
+    requires { ⌜ (1 ≤ n) × (n ≤ 255) × (length (now body) ≡ bodyLength n) ⌝ ∗ ⌜ (length (now lower) ≡ 255) × (length (now left) ≡ 255) × (length (now bottom) ≡ 255) ⌝ }
+    ensures { λ r. ⌜ (endCounts r ≡ walk (tripleIn (now (body .entry))) (n - 1)) × Noted r (tripleIn (now (body .entry))) n (now (lower .exit)) (now (left .exit)) (now (bottom .exit)) ⌝ }
+{
+    let mut below = [0u8; 255];
+    let mut above = [0u8; 255];
+    let mut newest_below = [0u8; 255];
+    let mut newest_above = [0u8; 255];
     let mut runs_below = 0;
     let mut runs_above = 0;
     let mut size: u8 = 1;
     lower[0] = 0;
+    left[0] = 0;
+    bottom[0] = 0;
     let mut k = 0;
     while k + 1 < n {
         let triple = bits::group(body, k);
@@ -100,44 +141,75 @@ fn forward(body: &[u8], n: usize, lower: &mut [u8; 255]) -> RunCounts
             return RunCounts::Missing;
         };
         let turn = turn_of(triple);
+        let under = chosen(turn.rises, size, below[runs_below]);
+        let over = chosen(turn.falls, size, above[runs_above]);
+        let labels_below = chosen(turn.below, under, 0);
         below[runs_below + 1] = size;
         above[runs_above + 1] = size;
-        let labels_below = turn.below * below[runs_below + turn.rises as usize];
-        size = 1 + labels_below + turn.above * above[runs_above + turn.falls as usize];
+        size = 1 + labels_below + chosen(turn.above, over, 0);
+        let next = k + 1;
+        newest_below[runs_below + 1] = next as u8;
+        newest_above[runs_above + 1] = next as u8;
+        lower[next] = labels_below;
+        left[next] = newest_below[runs_below + turn.rises as usize];
+        bottom[next] = newest_above[runs_above + turn.falls as usize];
         runs_below = next_below;
         runs_above = next_above;
-        lower[k + 1] = labels_below;
-        k += 1;
+        k = next;
     }
     RunCounts::Counted(runs_below, runs_above)
 }
 
-// The labels from the end, where all are one run: the newest label is taken out of the current run. Of each run below, the stack has the lowest label,
-// and of each run above, the label under it.
-fn backward(body: &[u8], n: usize, lower: &[u8; 255], labels: &mut [u8; 255])
-    requires { ⌜ (1 ≤ n) × (n ≤ 255) × (length (now body) ≡ bodyLength n) × Accepted (tripleIn (now body)) n ⌝ ∗ ⌜ Lowers (tripleIn (now body)) n (now lower) ⌝ ∗ ⌜ length (now labels) ≡ 255 ⌝ }
-    ensures { λ _. ⌜ Labelled (tripleIn (now (body .entry))) n (now (labels .exit)) × (length (now (labels .exit)) ≡ 255) ⌝ }
+// The labels from the end, where all are one run: the newest label is taken out of the current run. Of each run below, the stack has the lowest label and the
+// position, less 1, that first came to lie below it; of each run above, the label under it and the position, less 1, that first came to lie above it.
+pub fn backward(
+    body: &[u8],
+    n: usize,
+    lower: &[u8; 255],
+    labels: &mut [u8],
+    right: &mut [u16],
+    top: &mut [u16],
+)
+    requires { ⌜ (1 ≤ n) × (n ≤ 255) × (length (now body) ≡ bodyLength n) × Accepted (tripleIn (now body)) n ⌝ ∗ ⌜ Lowers (tripleIn (now body)) n (now lower) ⌝
+        ∗ ⌜ (n ≤ length (now labels)) × (n ≤ length (now right)) × (n ≤ length (now top)) ⌝ }
+    ensures list { λ _. ⌜ now (labels .exit) ≡ filled (λ i. labelOf (tripleIn (now (body .entry))) n (suc i)) n (now (labels .entry)) ⌝ }
+    ensures rights { λ _. ⌜ now (right .exit) ≡ filled (endAt (tripleIn (now (body .entry))) n up) n (now (right .entry)) ⌝ }
+    ensures tops { λ _. ⌜ now (top .exit) ≡ filled (endAt (tripleIn (now (body .entry))) n down) n (now (top .entry)) ⌝ }
 {
-    let mut below = [0u8; 256];
-    let mut above = [0u8; 256];
+    let mut below = [0u8; 255];
+    let mut above = [0u8; 255];
+    let mut tops = [0u8; 255];
+    let mut rights = [0u8; 255];
     let mut runs_below = 0;
     let mut runs_above = 0;
     let mut lowest: u8 = 1;
+    let mut end_up = n as u8;
+    let mut end_right = n as u8;
     let mut i = n - 1;
     while 0 < i {
         let label = lowest + lower[i];
         labels[i] = label;
+        right[i] = corner(end_right);
+        top[i] = corner(end_up);
         let turn = turn_of(bits::group(body, i - 1));
-        below[runs_below + 1] = lowest;
-        above[runs_above + 1] = label;
         let under = runs_below + turn.below as usize;
         let over = runs_above + turn.above as usize;
-        lowest = turn.rises * below[under] + turn.falls * above[over] + turn.falls;
+        let low = chosen(turn.below, lowest, below[runs_below]);
+        let high = chosen(turn.above, label, above[runs_above]);
+        below[runs_below + 1] = lowest;
+        above[runs_above + 1] = label;
+        tops[runs_below + 1] = end_up;
+        rights[runs_above + 1] = end_right;
+        lowest = chosen(turn.falls, high, low) + turn.falls;
+        end_up = chosen(turn.rises, tops[under], i as u8);
+        end_right = chosen(turn.falls, rights[over], i as u8);
         runs_below = under - turn.rises as usize;
         runs_above = over - turn.falls as usize;
         i -= 1;
     }
     labels[0] = lowest;
+    right[0] = corner(end_right);
+    top[0] = corner(end_up);
 }
 
 // Whether a bit after the first `used` is set. They are the low bits of the last byte.
@@ -162,10 +234,15 @@ pub enum Reading {
     Refused(Refusal),
 }
 
-// The labels of a record, from the front of the array, or the first refusal of the order.
-pub fn read(record: &[u8], labels: &mut [u8; 255]) -> Reading
-    requires { ⌜ length (now labels) ≡ 255 ⌝ }
-    ensures { λ r. ⌜ (r ≡ readingOf (now («record» .entry))) × Reads r (now («record» .entry)) (now (labels .exit)) ⌝ }
+// The first refusal of the order whose cause the record has; else how many labels it has, and what is noted of each of them for `finish`.
+pub fn check(
+    record: &[u8],
+    lower: &mut [u8; 255],
+    left: &mut [u8; 255],
+    bottom: &mut [u8; 255],
+) -> Reading
+    requires { ⌜ (length (now lower) ≡ 255) × (length (now left) ≡ 255) × (length (now bottom) ≡ 255) ⌝ }
+    ensures { λ r. ⌜ (r ≡ readingOf (now («record» .entry))) × Reads r (now («record» .entry)) (now (lower .exit)) (now (left .exit)) (now (bottom .exit)) ⌝ }
 {
     if record.len() == 0 {
         return Reading::Refused(Refusal::NoKind);
@@ -186,8 +263,7 @@ pub fn read(record: &[u8], labels: &mut [u8; 255]) -> Reading
     if spare_bit(body, used) {
         return Reading::Refused(Refusal::SpareBit);
     }
-    let mut lower = [0u8; 255];
-    match forward(body, n, &mut lower) {
+    match forward(body, n, lower, left, bottom) {
         RunCounts::Missing => Reading::Refused(Refusal::MissingRun),
         RunCounts::Counted(below, above) => {
             if below != 0 {
@@ -196,8 +272,24 @@ pub fn read(record: &[u8], labels: &mut [u8; 255]) -> Reading
             if above != 0 {
                 return Reading::Refused(Refusal::SeveralRuns);
             }
-            backward(body, n, &lower, labels);
             Reading::Read(n)
         }
     }
+}
+
+// The labels of a record that is not refused, from the front of their slice, and the rights and tops of the rooms.
+pub fn finish(
+    record: &[u8],
+    n: usize,
+    lower: &[u8; 255],
+    labels: &mut [u8],
+    right: &mut [u16],
+    top: &mut [u16],
+)
+    requires { ⌜ Ready (now «record») n (now lower) ⌝ ∗ ⌜ (n ≤ length (now labels)) × (n ≤ length (now right)) × (n ≤ length (now top)) ⌝ }
+    ensures list { λ _. ⌜ now (labels .exit) ≡ labelsOf (now («record» .entry)) ++ drop n (now (labels .entry)) ⌝ }
+    ensures rights { λ _. ⌜ now (right .exit) ≡ filled (endAt (triplesOf (now («record» .entry))) n up) n (now (right .entry)) ⌝ }
+    ensures tops { λ _. ⌜ now (top .exit) ≡ filled (endAt (triplesOf (now («record» .entry))) n down) n (now (top .entry)) ⌝ }
+{
+    backward(&record[1..], n, lower, labels, right, top);
 }

@@ -14,9 +14,9 @@ use Rattle.record.specs.Labels.{labelAt, EachOnce}
 use Rattle.record.specs.Barred.{Barred}
 use Rattle.record.specs.Triple.{Triple, triple, tripleAt}
 use Rattle.record.specs.Walk.{Counts, missing, counts, step, andThen, walk, Accepted}
-use Rattle.record.specs.Way.{Way, up, down, other, Past, past-trans, Order, before, same, after, order}
-use Rattle.record.specs.Sides.{Run, rest-of, Joined, apart, joined}
-use Rattle.record.specs.Runs.{Runs, runs-same, facing, ahead, Step, nothing-past, step-fresh, step-tells, reach-chained, one-way}
+use Rattle.record.specs.Way.{Way, up, down, other, Past, same}
+use Rattle.record.specs.Sides.{Run, rest-of, Front, Joined, apart, joined}
+use Rattle.record.specs.Runs.{Runs, runs-same, inside-past, facing, ahead, Step, nothing-past, fronts, step-fresh, step-tells, reach-chained, one-way}
 use Rattle.record.specs.Decode.{bitsOf, turnOf, Sizes, sizesAhead, joinedSize, growSizes, sizesAfter, lowerSize, takeOut, runsBut, labelOf, decode}
 use Rattle.record.specs.NextTo.{Seen, NextTo, not-barred-next, next-not-barred}
 use Rattle.record.specs.Forward.{Takes, leave, take, rising-counts, falling-counts, triple-is, runsOf, Stage, stage-first, step-stage, seen-grown, steps, no-run-left, ends}
@@ -163,7 +163,7 @@ module _ (t : ℕ → Triple) where
     goes (suc d) k e = goes-before k (goes d (suc k) (omega arith))
 
     -- the runs of the first k + 1 positions
-    runsAt : ℕ → Runs
+    pub runsAt : ℕ → Runs
     runsAt k = runsBut t (suc m) (m - k)
 
     abbrev f : ℕ → ℕ
@@ -198,12 +198,12 @@ module _ (t : ℕ → Triple) where
         }
 
     -- at the end all labels are one run
-    record Whole (z : Runs) : Type 0 where
-      top : z .edge up ≡ suc m
-      bottom : z .edge down ≡ 1
-      alone : (way : Way) → z .stack way ≡ []
+    pub record Whole (z : Runs) : Type 0 where
+      pub top : z .edge up ≡ suc m
+      pub bottom : z .edge down ≡ 1
+      pub alone : (way : Way) → z .stack way ≡ []
 
-    whole : Whole (runsAt m)
+    pub whole : Whole (runsAt m)
     unfolding runsAt runsBut
     whole = let e : m - m ≡ 0 = omega arith in subst (λ (j : ℕ). Whole (runsBut t (suc m) j)) (sym e) (record { top = refl; bottom = refl; alone = λ way. refl })
 
@@ -236,7 +236,7 @@ module _ (t : ℕ → Triple) where
     all-sized zero k e = let h : m ≡ k = omega arith in subst (λ (j : ℕ). Sized (runsAt j) (sizesAfter t j)) h sized-last
     all-sized (suc d) k e = one-back k (omega arith) (all-sized d (suc k) (omega arith)) .sized
 
-    step-at : (k : ℕ) → suc k ≤ m → let u = t (suc (suc k)) in Step (turnOf u) (bitsOf u) (f (suc (suc k))) (runsAt k) (runsAt (suc k))
+    pub step-at : (k : ℕ) → suc k ≤ m → let u = t (suc (suc k)) in Step (turnOf u) (bitsOf u) (f (suc (suc k))) (runsAt k) (runsAt (suc k))
     step-at k h = one-back k h (all-sized (m - suc k) (suc k) (omega arith)) .step
 
     -- looking back, the label met a run: the one that was current
@@ -267,9 +267,13 @@ module _ (t : ℕ → Triple) where
         no-runs : {way : Way} {x : ℕ} {rs : List Run} → Spaced way x rs [] → rs ≡ []
         no-runs last = refl
 
-    stage-at : (k : ℕ) → k ≤ m → Stage f k (runsAt k)
+    pub stage-at : (k : ℕ) → k ≤ m → Stage f k (runsAt k)
     stage-at zero h = first-stage
     stage-at (suc k) h = step-stage f k (stage-at k (omega arith)) (step-at k h)
+
+    -- what the label of position k + 2 meets
+    pub front-at : (k : ℕ) → suc k ≤ m → (way : Way) → Front (Seen f (suc k)) way (f (suc (suc k))) (ahead (turnOf (t (suc (suc k)))) (runsAt k) way)
+    front-at k h way = fronts (stage-at k (omega arith) .faithful) (turnOf (t (suc (suc k)))) (f (suc (suc k))) (step-at k h .past) (step-at k h .free) way
 
     fresh : (k : ℕ) → suc k ≤ m → ¬ Seen f (suc k) (f (suc (suc k)))
     fresh k h = step-fresh (stage-at k (omega arith) .faithful) (step-at k h)
@@ -298,15 +302,7 @@ module _ (t : ℕ → Triple) where
 
     -- the newest label is in the current run, so the next one lies on the side that the triple says
     turns : (k : ℕ) → (h : suc k ≤ m) → Past (turnOf (t (suc (suc k)))) (f (suc k)) (f (suc (suc k)))
-    turns k h = go (order turn (f (suc k)) (runsAt k .edge turn))
-      where
-        turn : Way
-        turn = turnOf (t (suc (suc k)))
-
-        go : Order turn (f (suc k)) (runsAt k .edge turn) → Past turn (f (suc k)) (f (suc (suc k)))
-        go (before p) = past-trans p (step-at k h .past)
-        go (same e) = subst (λ (x : ℕ). Past turn x (f (suc (suc k)))) (sym e) (step-at k h .past)
-        go (after p) = absurd (stage-at k (omega arith) .inside turn p)
+    turns k h = inside-past (runsAt k) (turnOf (t (suc (suc k)))) (stage-at k (omega arith) .inside) (step-at k h .past)
 
     pub decoded-triple : (k : ℕ) → suc k ≤ m → tripleAt f (suc (suc k)) ≡ t (suc (suc k))
     decoded-triple k h = triple-is f (suc k) (t (suc (suc k))) (within (suc (suc k)) (omega arith) (omega arith) .0) (step-tells (seen-grown f (suc k) (fresh k h)) (stage-at k (omega arith) .faithful) (step-at k h)) (turns k h)

@@ -12,11 +12,14 @@ pub mod Way
 pub mod Sides
 pub mod Runs
 pub mod Decode
+pub mod Positions
 pub mod Read
 pub mod NextTo
 pub mod Forward
 pub mod Sizes
 pub mod Backward
+pub mod Newest
+pub mod Entered
 pub mod Demand1
 pub mod Demand2
 pub mod Checked

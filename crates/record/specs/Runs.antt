@@ -27,6 +27,15 @@ pub record Faithful (S : ℕ → Type 0) (z : Runs) : Type 0 where
 abbrev pub Inside : Runs → ℕ → Type 0
 Inside z c = (way : Way) → ¬ Past way (z .edge way) c
 
+-- what is past the current run is past each label in it
+pub inside-past : (z : Runs) (way : Way) {c x : ℕ} → Inside z c → Past way (z .edge way) x → Past way c x
+inside-past z way {c} {x} inside p = go (order way c (z .edge way))
+  where
+    go : Order way c (z .edge way) → Past way c x
+    go (before l) = past-trans l p
+    go (same e) = subst (λ (y : ℕ). Past way y x) (sym e) p
+    go (after l) = absurd (inside way l)
+
 -- what a label meets, looking either way, where it lies on the side `turn` of the current run: the runs on that side, and the other way the current run first
 abbrev pub facing : {A : Type 0} (turn : Way) (current : Way → A) (stack : Way → List A) → Way → List A
 facing up current stack up = stack up
@@ -69,7 +78,7 @@ module _ {S : ℕ → Type 0} {z : Runs} (k : Faithful S z) where
 
   module _ {turn : Way} {v : ℕ} (past : Past turn (z .edge turn) v) (free : Before turn v (z .stack turn)) where
     -- nothing is seen between the current run and v
-    gap : (x : ℕ) → Past turn (z .edge turn) x → Past turn x v → ¬ S x
+    pub gap : (x : ℕ) → Past turn (z .edge turn) x → Past turn x v → ¬ S x
     gap x p q = go (k .sides turn) free
       where
         go : {rs : List Run} → Side S turn (z .edge turn) rs → Before turn v rs → ¬ S x

@@ -1,58 +1,54 @@
--- `answers::put_front` meets its contract: after i turns the first i numbers are pasted over the front of the slice.
-use mathlib.Core.List.{List, _++_}
-use mathlib.Core.Path.{_≡_, refl, ap}
+-- `answers::put_front` meets its contract: after i turns the first i places are filled.
+use mathlib.Core.Path.{_≡_, subst}
 use Prim.Native.Nat.{ℕ, _-_, _≤_}
 use native.Mathlib.Omega.{arith}
-use native.Mathlib.Nat.{zero-add}
-use native.Mathlib.Numerals.{add-one}
-use lib.ListN.{length, drop, length-set}
-use lib.Seq.{paste, paste-zero, paste-suc, take-length}
+use lib.ListN.{getD}
+use Rattle.finite.specs.Fill.{Filling, filling-none, filling-up, filling-end}
 use borrow.Author.Needs.{needs}
 use Rattle.answers.proofs.put_front.Statement.{statement}
 use Rattle.answers.proofs.put_front.Tie as tie
 
 abbrev Inv-loop : tie.InvT-loop
-Inv-loop numbers slice₀ n i₀ slice i = (i ≤ length numbers) × (slice ≡ paste slice₀ 0 numbers i) × (length slice ≡ length slice₀)
+Inv-loop numbers n slice₀ i₀ slice i = (i ≤ n) × Filling (λ k. getD numbers k 0) 0 i slice₀ slice
 
 abbrev μ-loop : tie.MeasureT-loop
-μ-loop numbers slice₀ n i₀ slice i = length numbers - i
-
-paste-all : (before numbers : List ℕ) → paste before 0 numbers (length numbers) ≡ numbers ++ drop (length numbers) before
-paste-all before numbers = rw (zero-add (length numbers)) (ap (λ (front : List ℕ). front ++ drop (length numbers) before) (take-length numbers))
+μ-loop numbers n slice₀ i₀ slice i = n - i
 
 loop-holds : tie.Need-loop-holds Inv-loop μ-loop
-loop-holds c = (omega arith, paste-zero (c .args .slice .now) 0 (c .args .numbers .now), refl)
+loop-holds c = (omega arith, filling-none _ 0 _)
 
-shared-slice-read-slice : tie.Need-shared-slice-read-slice Inv-loop μ-loop
-shared-slice-read-slice c = search needs
+element-copy-out-corner : tie.Need-element-copy-out-corner Inv-loop μ-loop
+element-copy-out-corner c = omega (arith, c .loop-test .taken, c .before .before .before .pre .0)
+
+corner-requires : tie.Need-corner-requires Inv-loop μ-loop
+corner-requires c κs = search needs
+
+mul-slice : tie.Need-mul-slice Inv-loop μ-loop
+mul-slice c = omega (arith, c .before .before .loop-test .taken, c .before .before .before .before .before .pre .0)
 
 slice-write-slice : tie.Need-slice-write-slice Inv-loop μ-loop
-slice-write-slice c = search needs
+slice-write-slice c = omega (arith, c .before .before .loop-test .taken, c .before .before .before .before .before .pre .1, c .before .before .before .loop .inv .1 .size)
 
 add-i : tie.Need-add-i Inv-loop μ-loop
-add-i c = search needs
+add-i c = omega (arith, c .before .before .loop-test .taken, c .before .before .before .before .before .pre .0)
 
 loop-less : tie.Need-loop-less Inv-loop μ-loop
-loop-less c = search needs
+loop-less c = omega (arith, c .before .before .loop-test .taken)
 
 loop-again : tie.Need-loop-again Inv-loop μ-loop
 loop-again c =
-    let l = c .before .before .loop in
-    let a = c .before .before .before .args in (
-      omega arith,
-      rw (l .inv .1, add-one (l .i), zero-add (l .i)) (rw (zero-add (l .i)) at (paste-suc (a .slice .now) 0 (a .numbers .now) (l .i) 0 (omega arith) (omega arith))),
-      simp length-set (l .inv .2),
-    )
+    let l = c .before .before .before .loop in
+    (omega (arith, c .before .before .loop-test .taken), filling-up (c .corner .result) (l .inv .1) (omega arith) (omega (arith, c .before .before .loop-test .taken, c .before .before .before .before .before .pre .1)) (c .corner .ensures))
 
 same-length : tie.Need-same-length Inv-loop μ-loop
-same-length c = search needs
+same-length c = c .before .loop .inv .1 .size
 
 returns : tie.Need-returns Inv-loop μ-loop
 returns c =
-    let l = c .before .loop in
-    let a = c .before .before .args in
-    let e : l .i ≡ length (a .numbers .now) = omega arith in
-    rw (l .inv .1, e) (paste-all (a .slice .now) (a .numbers .now))
+    let l = c .before in
+    let a = l .before .before .args in
+    let done : l .loop .i ≡ a .n = omega (arith, l .loop .inv .0, c .loop-test .left) in
+    filling-end _ (a .n) (subst (λ (i : ℕ). Filling (λ k. getD (a .numbers .now) k 0) 0 i (a .slice .now) (l .loop .slice)) done (l .loop .inv .1)) (l .before .before .pre .1)
 
 pub put-front-spec : {M : Type 1} → statement M
 put-front-spec =
@@ -61,7 +57,9 @@ put-front-spec =
     Inv-loop
     μ-loop
     loop-holds
-    shared-slice-read-slice
+    element-copy-out-corner
+    corner-requires
+    mul-slice
     slice-write-slice
     add-i
     loop-less

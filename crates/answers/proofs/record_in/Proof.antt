@@ -1,38 +1,39 @@
 -- `answers::record_in` meets its contract: the record is read or refused, the slices are measured, and only then written.
-use mathlib.Core.Logic.{inl, inr}
-use mathlib.Core.Path.{_≡_, refl, sym, subst, _∙_}
+use mathlib.Core.Bool.{Bool}
+use mathlib.Core.Path.{refl, sym, subst, _∙_}
 use lib.ListN.{length}
-use Rattle.record.specs.declared.Refusal.the-variants.{ShortOutput}
-use Rattle.reading.specs.Answer.{Reads}
+use Rattle.finite.specs.Decide.{Tells}
+use Rattle.record.specs.Way.{up, down}
+use Rattle.reading.specs.Passes.{Starts}
+use Rattle.reading.specs.Answer.{Reads, Ready, triplesOf}
 use Rattle.reading.specs.declared.Reading.{Reading}
-use Rattle.drawing.specs.Corners.{leftsOf, bottomsOf, rightsOf, topsOf}
-use Rattle.answers.specs.Answer.{Short, recordAnswer}
+use Rattle.answers.specs.Answer.{Short}
 use Rattle.answers.specs.declared.RecordAnswer.the-variants.{Refused}
-use Rattle.answers.proofs.Asked.{same-refusal, Given, given, short-answer, read-answer, all-long, front}
+use Rattle.answers.proofs.Asked.{same-refusal, long-enough, short-answer, read-answer}
+use Rattle.answers.proofs.Drawn.{lefts-front, bottoms-front, rights-front, tops-front}
 use borrow.Author.Needs.{needs}
 use Rattle.answers.proofs.record_in.Statement.{statement}
 use Rattle.answers.proofs.record_in.Tie as tie
 use Rattle.answers.proofs.record_in.Reads as reads
 use Rattle.answers.proofs.record_in.Lts as lts
 use Rattle.answers.proofs.put_front.Reads as put-front-reads
-use Rattle.drawing.proofs.draw.Reads as draw-reads
-use Rattle.reading.proofs.read.Reads as read-reads
+use Rattle.answers.proofs.short.Reads as short-reads
+use Rattle.reading.proofs.check.Reads as check-reads
+use Rattle.reading.proofs.finish.Reads as finish-reads
 
--- the labels that were read
-got : (e : lts.After-known-told2 (read-reads.Asked, read-reads.Learnt, put-front-reads.Asked, put-front-reads.Learnt, draw-reads.Asked, draw-reads.Learnt) reads.Pre reads.Post) → Given (e .before .before .before .before .before .before .before .before .before .before .before .args .«record» .now) (e .before .before .before .read .last .1 .0) (e .before .n .given .0 .0)
+-- what was read
+got : (e : lts.After-known-told2 (check-reads.Asked, check-reads.Learnt, short-reads.Asked, short-reads.Learnt, put-front-reads.Asked, put-front-reads.Learnt, finish-reads.Asked, finish-reads.Learnt) reads.Pre reads.Post) → let bytes = e .before .before .before .before .before .before .before .before .before .before .before .before .before .args .«record» .now in let last = e .before .before .before .check .last in let n = e .before .n .given .0 .0 in
+    Ready bytes n (last .1 .0) × Starts down (triplesOf bytes) n (last .1 .1 .0) × Starts up (triplesOf bytes) n (last .1 .1 .1 .0)
 got e =
-    let bytes = e .before .before .before .before .before .before .before .before .before .before .before .args .«record» .now in
-    let found = e .before .before .before .read .last .1 .0 in
-    given bytes found (e .before .n .given .0 .0) (sym (e .before .n .given .1) ∙ e .before .before .before .read .ensures .0) (subst (λ (r : Reading). Reads r bytes found) (e .before .n .given .1) (e .before .before .before .read .ensures .1))
+    let check = e .before .before .before .check in
+    subst (λ (r : Reading). Reads r (e .before .before .before .before .before .before .before .before .before .before .before .before .before .args .«record» .now) (check .last .1 .0) (check .last .1 .1 .0) (check .last .1 .1 .1 .0)) (e .before .n .given .1) (check .ensures .1)
 
--- 15: one of the slices is too short
-short : (e : lts.After-known-told2 (read-reads.Asked, read-reads.Learnt, put-front-reads.Asked, put-front-reads.Learnt, draw-reads.Asked, draw-reads.Learnt) reads.Pre reads.Post) → let a = e .before .before .before .before .before .before .before .before .before .before .before .args in
-    Short (e .before .n .given .0 .0) (length (a .labels .now)) (length (a .left .now)) (length (a .bottom .now)) (length (a .right .now)) (length (a .top .now))
-    → Refused ShortOutput ≡ recordAnswer (a .«record» .now) (length (a .labels .now)) (length (a .left .now)) (length (a .bottom .now)) (length (a .right .now)) (length (a .top .now))
-short e h = let a = e .before .before .before .before .before .before .before .before .before .before .before .args in short-answer (got e) (length (a .labels .now)) (length (a .left .now)) (length (a .bottom .now)) (length (a .right .now)) (length (a .top .now)) h
+-- the slices, measured
+enough : (e : lts.Else1 (check-reads.Asked, check-reads.Learnt, short-reads.Asked, short-reads.Learnt, put-front-reads.Asked, put-front-reads.Learnt, finish-reads.Asked, finish-reads.Learnt) reads.Pre reads.Post) → let a = e .before .before .before .before .before .before .before .before .before .before .before .before .before .before .before .args in ¬ Short (e .before .before .before .n .given .0 .0) (length (a .labels .now)) (length (a .left .now)) (length (a .bottom .now)) (length (a .right .now)) (length (a .top .now))
+enough e = let a = e .before .before .before .before .before .before .before .before .before .before .before .before .before .before .before .args in subst (λ (t : Bool). Tells t (Short (e .before .before .before .n .given .0 .0) (length (a .labels .now)) (length (a .left .now)) (length (a .bottom .now)) (length (a .right .now)) (length (a .top .now)))) (e .if1 .left) (e .before .short .ensures)
 
-read-requires : tie.Need-read-requires
-read-requires c κs = search needs
+check-requires : tie.Need-check-requires
+check-requires c κs = search needs
 
 enum-known-refusal : tie.Need-enum-known-refusal
 enum-known-refusal c = search needs
@@ -40,37 +41,29 @@ enum-known-refusal c = search needs
 enum-known-n : tie.Need-enum-known-n
 enum-known-n c = search needs
 
+short-requires : tie.Need-short-requires
+short-requires c κs = search needs
+
 returns : tie.Need-returns
-returns c = ((short (c .before) (inl (c .if1 .taken)), tt), (refl, (refl, (refl, (refl, refl)))))
-
-returns-2 : tie.Need-returns-2
-returns-2 c = ((short (c .before .before) (inr (inl (c .if2 .taken))), tt), (refl, (refl, (refl, (refl, refl)))))
-
-returns-3 : tie.Need-returns-3
-returns-3 c = ((short (c .before .before .before) (inr (inr (inl (c .if3 .taken)))), tt), (refl, (refl, (refl, (refl, refl)))))
-
-returns-4 : tie.Need-returns-4
-returns-4 c = ((short (c .before .before .before .before) (inr (inr (inr (inl (c .if4 .taken))))), tt), (refl, (refl, (refl, (refl, refl)))))
-
-returns-5 : tie.Need-returns-5
-returns-5 c = ((short (c .before .before .before .before .before) (inr (inr (inr (inr (c .if5 .taken))))), tt), (refl, (refl, (refl, (refl, refl)))))
-
-array-share-prefix-found : tie.Need-array-share-prefix-found
-array-share-prefix-found c = got (c .before .before .before .before .before) .long
-
-slice-aggregate-list : tie.Need-slice-aggregate-list
-slice-aggregate-list c = sym (got (c .before .before .before .before .before .before) .size)
+returns c =
+    let k = c .before .before in
+    let a = k .before .before .before .before .before .before .before .before .before .before .before .before .before .args in
+    let told = subst (λ (t : Bool). Tells t (Short (k .before .n .given .0 .0) (length (a .labels .now)) (length (a .left .now)) (length (a .bottom .now)) (length (a .right .now)) (length (a .top .now)))) (c .if1 .taken) (c .before .short .ensures) in
+    ((short-answer (got k .0) _ _ _ _ _ told, tt), (refl, (refl, (refl, (refl, refl)))))
 
 put-front-requires : tie.Need-put-front-requires
-put-front-requires c κs = rw (got (c .before .before .before .before .before .before .before) .size) (c .before .before .before .before .before .before .if1 .left)
+put-front-requires c κs = let e = c .before .before in (got (e .before .before) .0 .few, long-enough (enough e) .1)
 
-draw-requires : tie.Need-draw-requires
-draw-requires c κs = let e = c .before .before .before .before .before .before .before .before .before in rw (got (e .before .before .before .before .before) .size) (got (e .before .before .before .before .before) .small, ((e .before .before .before .if2 .left, e .before .before .if3 .left), (e .before .if4 .left, e .if5 .left)))
+put-front-requires-2 : tie.Need-put-front-requires-2
+put-front-requires-2 c κs = let e = c .before .before .before .before .before .before .before in (got (e .before .before) .0 .few, long-enough (enough e) .2)
 
-returns-6 : tie.Need-returns-6
-returns-6 c =
+finish-requires : tie.Need-finish-requires
+finish-requires c κs = let e = c .before .before .before .before .before .before .before .before .before .before .before .before .before .before in let long = long-enough (enough e) in (got (e .before .before) .0, (long .0, long .3, long .4))
+
+returns-2 : tie.Need-returns-2
+returns-2 c =
     let r = c .before .before .before in
-    ((same-refusal Refused (r .before .before .before .before .before .before .before .before .args .«record» .now) _ (c .before .refusal .given .0 .0) (sym (c .before .refusal .given .1) ∙ r .read .ensures .0), tt), (refl, (refl, (refl, (refl, refl)))))
+    ((same-refusal Refused (r .before .before .before .before .before .before .before .before .before .before .args .«record» .now) _ (c .before .refusal .given .0 .0) (sym (c .before .refusal .given .1) ∙ r .check .ensures .0), tt), (refl, (refl, (refl, (refl, refl)))))
 
 same-length : tie.Need-same-length
 same-length c = search needs
@@ -87,27 +80,23 @@ same-length-4 c = search needs
 same-length-5 : tie.Need-same-length-5
 same-length-5 c = search needs
 
-returns-7 : tie.Need-returns-7
-returns-7 c =
-    let e = c .before .before .before .before .before .before .before .before .before .before .before .before .before .before .before .before .before .before in
-    let k = e .before .before .before .before .before in
-    let a = k .before .before .before .before .before .before .before .before .before .before .before .args in
-    let g = got k in
-    let drawn = c .before .before .before .before .before .before .before .before .draw .ensures in (
+returns-3 : tie.Need-returns-3
+returns-3 c =
+    let f = c .before .before .before .before .before .before in
+    let e = f .before .before .before .before .before .before .before .before .before .before .before .before .before .before .before in
+    let k = e .before .before in
+    let a = k .before .before .before .before .before .before .before .before .before .before .before .before .before .args in
+    let g = got k in (
+      (read-answer (g .0) _ _ _ _ _ (enough e), g .0 .few),
       (
-        read-answer g (length (a .labels .now)) (length (a .left .now)) (length (a .bottom .now)) (length (a .right .now)) (length (a .top .now))
-            (all-long g (length (a .labels .now)) (length (a .left .now)) (length (a .bottom .now)) (length (a .right .now)) (length (a .top .now)) (e .before .before .before .before .if1 .left) (e .before .before .before .if2 .left) (e .before .before .if3 .left) (e .before .if4 .left) (e .if5 .left)),
-        g .small,
-      ),
-      (
-        c .before .before .before .before .before .before .before .before .before .before .before .before .before .before .before .put-front .ensures ∙ front g (λ labels. labels) (a .labels .now),
+        f .finish .ensures .0,
         (
-          drawn .0 ∙ front g leftsOf (a .left .now),
+          f .before .before .before .before .before .before .before .before .before .before .before .before .put-front .ensures ∙ lefts-front (g .0) _ (a .left .now) (g .1),
           (
-            drawn .1 .0 ∙ front g bottomsOf (a .bottom .now),
+            f .before .before .before .before .before .before .before .put-front2 .ensures ∙ bottoms-front (g .0) _ (a .bottom .now) (g .2),
             (
-              drawn .1 .1 .0 ∙ front g rightsOf (a .right .now),
-              drawn .1 .1 .1 ∙ front g topsOf (a .top .now),
+              f .finish .ensures .1 .0 ∙ rights-front (g .0) (a .right .now),
+              f .finish .ensures .1 .1 ∙ tops-front (g .0) (a .top .now),
             ),
           ),
         ),
@@ -118,22 +107,18 @@ pub record-in-spec : {M : Type 1} → statement M
 record-in-spec =
     tie.close
     (tie.spec
-    read-requires
+    check-requires
     enum-known-refusal
     enum-known-n
+    short-requires
     returns
-    returns-2
-    returns-3
-    returns-4
-    returns-5
-    array-share-prefix-found
-    slice-aggregate-list
     put-front-requires
-    draw-requires
-    returns-6
+    put-front-requires-2
+    finish-requires
+    returns-2
     same-length
     same-length-2
     same-length-3
     same-length-4
     same-length-5
-    returns-7)
+    returns-3)

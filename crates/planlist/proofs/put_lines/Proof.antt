@@ -3,7 +3,8 @@ use Prim.Native.Nat.{_+_, _*_, _-_, _≤_}
 use native.Mathlib.Omega.{arith}
 use borrow.Author.Needs.{needs}
 use Rattle.record.specs.Labels.{labelAt}
-use Rattle.planlist.specs.Put.{Put, roomIn}
+use Rattle.drawing.specs.Corners.{roomIn}
+use Rattle.planlist.specs.Put.{Put}
 use Rattle.planlist.specs.Text.{linesOf}
 use Rattle.planlist.proofs.Lines.{no-lines, one-more, all-lines}
 use Rattle.planlist.proofs.put_lines.Statement.{statement}

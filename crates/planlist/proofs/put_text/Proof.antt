@@ -3,13 +3,13 @@ use mathlib.Core.Path.{subst, _∙_}
 use Prim.Native.Nat.{_≤_}
 use native.Mathlib.Omega.{arith}
 use lib.ListN.{replicate}
+use Rattle.drawing.specs.Corners.{roomIn}
 use borrow.Author.Needs.{needs}
 use Rattle.record.specs.Read.{kindOf}
 use Rattle.record.specs.Labels.{labelAt}
 use Rattle.answers.specs.Answer.{Few}
 use Rattle.answers.specs.declared.RecordAnswer.{RecordAnswer}
 use Rattle.answers.specs.declared.RecordAnswer.the-variants.{Read}
-use Rattle.planlist.specs.Put.{roomIn}
 use Rattle.planlist.specs.Text.{linesOf}
 use Rattle.planlist.proofs.Puts.{put-more, put-counts}
 use Rattle.planlist.proofs.Listed.{Written, refused-text, read-text}

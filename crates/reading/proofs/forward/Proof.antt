@@ -1,70 +1,79 @@
--- `reading::forward` meets its contract. Between two turns Counted holds, which also says what one more turn leaves.
+-- `reading::forward` meets its contract. Between two turns Counted holds, of the sizes, and Placed on either side, of the positions; they also say what one more turn leaves.
 use mathlib.Core.Path.{_≡_, refl, sym, ap, subst, _∙_}
-use Prim.Native.Nat.{suc, _+_, _-_, _*_, _≤_, _<_}
-use lib.ListN.{getD, set}
+use Prim.Native.Nat.{suc, _+_, _-_, _≤_, _<_}
 use native.Mathlib.Omega.{arith}
 use borrow.Author.Needs.{needs}
 use Rattle.record.specs.Triple.{Triple}
 use Rattle.record.specs.Walk.{missing, counts, step, walk}
+use Rattle.record.specs.Way.{up, down}
 use Rattle.record.specs.Record.{tripleIn}
 use Rattle.reading.specs.Turn.{Says, tripleOf}
 use Rattle.reading.specs.Passes.{endCounts}
-use Rattle.reading.proofs.Count.{Counted, counted-first, walk-next, small, turned}
+use Rattle.reading.proofs.Count.{Counted, counted-first, walk-next, meets, small, turned}
+use Rattle.reading.proofs.Starts.{Placed, placed-first, placed-next}
 use Rattle.reading.proofs.Table.{group-triple, missing-on, rises-small, falls-small}
+use Rattle.reading.proofs.Told.{above-small, below-small}
 use Rattle.reading.proofs.forward.Statement.{statement}
 use Rattle.reading.proofs.forward.Tie as tie
 use Rattle.reading.proofs.forward.Reads as reads
 use Rattle.reading.proofs.forward.Lts as lts
 use Rattle.bits.proofs.group.Reads as group-reads
+use Rattle.reading.proofs.chosen.Reads as chosen-reads
 use Rattle.reading.proofs.step.Reads as step-reads
 use Rattle.reading.proofs.turn_of.Reads as turn-of-reads
 
 abbrev Inv-loop : tie.InvT-loop
-Inv-loop body n lower₀ below₀ above₀ runs-below₀ runs-above₀ size₀ k₀ lower below above runs-below runs-above size k =
-    Counted (tripleIn body) k lower below above runs-below runs-above size × (k < n)
+Inv-loop body n lower₀ left₀ bottom₀ below₀ above₀ newest-below₀ newest-above₀ runs-below₀ runs-above₀ size₀ k₀ lower left bottom below above newest-below newest-above runs-below runs-above size k =
+    Counted (tripleIn body) k lower below above runs-below runs-above size × Placed (tripleIn body) k down left newest-below runs-below × Placed (tripleIn body) k up bottom newest-above runs-above × (k < n)
 
 abbrev μ-loop : tie.MeasureT-loop
-μ-loop body n lower₀ below₀ above₀ runs-below₀ runs-above₀ size₀ k₀ lower below above runs-below runs-above size k =
+μ-loop body n lower₀ left₀ bottom₀ below₀ above₀ newest-below₀ newest-above₀ runs-below₀ runs-above₀ size₀ k₀ lower left bottom below above newest-below newest-above runs-below runs-above size k =
     n - k
 
 -- the turn's triple
-abbrev at : lts.After-group (group-reads.Asked, group-reads.Learnt, step-reads.Asked, step-reads.Learnt, turn-of-reads.Asked, turn-of-reads.Learnt) reads.Pre reads.Post Inv-loop μ-loop → Triple
+abbrev at : lts.After-group (group-reads.Asked, group-reads.Learnt, step-reads.Asked, step-reads.Learnt, turn-of-reads.Asked, turn-of-reads.Learnt, chosen-reads.Asked, chosen-reads.Learnt) reads.Pre reads.Post Inv-loop μ-loop → Triple
 at g = let l = g .before .before in tripleIn (l .before .before .args .body .now) (suc (suc (l .loop .k)))
 
-read : (g : lts.After-group (group-reads.Asked, group-reads.Learnt, step-reads.Asked, step-reads.Learnt, turn-of-reads.Asked, turn-of-reads.Learnt) reads.Pre reads.Post Inv-loop μ-loop) → tripleOf (g .group .result) ≡ at g
+read : (g : lts.After-group (group-reads.Asked, group-reads.Learnt, step-reads.Asked, step-reads.Learnt, turn-of-reads.Asked, turn-of-reads.Learnt, chosen-reads.Asked, chosen-reads.Learnt) reads.Pre reads.Post Inv-loop μ-loop) → tripleOf (g .group .result) ≡ at g
 read g = let l = g .before .before in ap tripleOf (g .group .ensures .0) ∙ group-triple (l .before .before .args .body .now) (l .loop .k)
 
-more : (g : lts.After-group (group-reads.Asked, group-reads.Learnt, step-reads.Asked, step-reads.Learnt, turn-of-reads.Asked, turn-of-reads.Learnt) reads.Pre reads.Post Inv-loop μ-loop) → g .before .before .loop .k < 254
+more : (g : lts.After-group (group-reads.Asked, group-reads.Learnt, step-reads.Asked, step-reads.Learnt, turn-of-reads.Asked, turn-of-reads.Learnt, chosen-reads.Asked, chosen-reads.Learnt) reads.Pre reads.Post Inv-loop μ-loop) → g .before .before .loop .k < 254
 more g = omega (arith, g .before .loop-test .taken, g .before .before .before .before .pre .0 .1)
 
+-- how many runs there are at a turn
+few : (g : lts.After-group (group-reads.Asked, group-reads.Learnt, step-reads.Asked, step-reads.Learnt, turn-of-reads.Asked, turn-of-reads.Learnt, chosen-reads.Asked, chosen-reads.Learnt) reads.Pre reads.Post Inv-loop μ-loop) → g .before .before .loop .runs-below + g .before .before .loop .runs-above < 254
+few g = omega (arith, more g, g .before .before .loop .inv .0 .few)
+
 -- what the table says of it
-stepped : (s : lts.After-step (group-reads.Asked, group-reads.Learnt, step-reads.Asked, step-reads.Learnt, turn-of-reads.Asked, turn-of-reads.Learnt) reads.Pre reads.Post Inv-loop μ-loop) → let l = s .before .before .before in endCounts (s .step .result) ≡ step (at (s .before)) (l .loop .runs-below) (l .loop .runs-above)
+stepped : (s : lts.After-step (group-reads.Asked, group-reads.Learnt, step-reads.Asked, step-reads.Learnt, turn-of-reads.Asked, turn-of-reads.Learnt, chosen-reads.Asked, chosen-reads.Learnt) reads.Pre reads.Post Inv-loop μ-loop) → let l = s .before .before .before in endCounts (s .step .result) ≡ step (at (s .before)) (l .loop .runs-below) (l .loop .runs-above)
 stepped s = let l = s .before .before .before in s .step .ensures ∙ ap (λ (u : Triple). step u (l .loop .runs-below) (l .loop .runs-above)) (read (s .before))
 
-goes : (e : lts.After-next-below (group-reads.Asked, group-reads.Learnt, step-reads.Asked, step-reads.Learnt, turn-of-reads.Asked, turn-of-reads.Learnt) reads.Pre reads.Post Inv-loop μ-loop) → let s = e .before .before in let l = s .before .before .before in
+goes : (e : lts.After-next-below (group-reads.Asked, group-reads.Learnt, step-reads.Asked, step-reads.Learnt, turn-of-reads.Asked, turn-of-reads.Learnt, chosen-reads.Asked, chosen-reads.Learnt) reads.Pre reads.Post Inv-loop μ-loop) → let s = e .before .before in let l = s .before .before .before in
     step (at (s .before)) (l .loop .runs-below) (l .loop .runs-above) ≡ counts (e .next-below .given .0 .0) (e .next-below .given .0 .1 .0)
 goes e = sym (stepped (e .before .before)) ∙ ap endCounts (e .next-below .given .1)
 
 -- what the turn has been told of it
-told : (e : lts.After-turn-of (group-reads.Asked, group-reads.Learnt, step-reads.Asked, step-reads.Learnt, turn-of-reads.Asked, turn-of-reads.Learnt) reads.Pre reads.Post Inv-loop μ-loop) → Says (at (e .before .before .before .before .before)) (e .turn-of .result)
+told : (e : lts.After-turn-of (group-reads.Asked, group-reads.Learnt, step-reads.Asked, step-reads.Learnt, turn-of-reads.Asked, turn-of-reads.Learnt, chosen-reads.Asked, chosen-reads.Learnt) reads.Pre reads.Post Inv-loop μ-loop) → Says (at (e .before .before .before .before .before)) (e .turn-of .result)
 told e = subst (λ (u : Triple). Says u (e .turn-of .result)) (read (e .before .before .before .before .before)) (e .turn-of .ensures)
 
 -- the sizes fit in bytes
-fit : (e : lts.After-turn-of (group-reads.Asked, group-reads.Learnt, step-reads.Asked, step-reads.Learnt, turn-of-reads.Asked, turn-of-reads.Learnt) reads.Pre reads.Post Inv-loop μ-loop) → let l = e .before .before .before .before .before .before .before in let turn = e .turn-of .result in
-    1 + turn .below * getD (set (l .loop .below) (l .loop .runs-below + 1) (l .loop .size)) (l .loop .runs-below + turn .rises) 0 + turn .above * getD (set (l .loop .above) (l .loop .runs-above + 1) (l .loop .size)) (l .loop .runs-above + turn .falls) 0 ≤ 255
+fit : (e : lts.After-chosen4 (group-reads.Asked, group-reads.Learnt, step-reads.Asked, step-reads.Learnt, turn-of-reads.Asked, turn-of-reads.Learnt, chosen-reads.Asked, chosen-reads.Learnt) reads.Pre reads.Post Inv-loop μ-loop) → 1 + e .before .chosen3 .result + e .chosen4 .result ≤ 255
 fit e =
-    let g = e .before .before .before .before .before in
-    small (g .before .before .loop .inv .0) (more g) (goes (e .before .before)) (e .turn-of .result) (told e)
-
--- how many runs there are at a turn
-few : (g : lts.After-group (group-reads.Asked, group-reads.Learnt, step-reads.Asked, step-reads.Learnt, turn-of-reads.Asked, turn-of-reads.Learnt) reads.Pre reads.Post Inv-loop μ-loop) → g .before .before .loop .runs-below + g .before .before .loop .runs-above < 254
-few g = omega (arith, more g, g .before .before .loop .inv .0 .few)
+    let o = e .before .before .before .before in
+    let g = o .before .before .before .before .before in
+    small (g .before .before .loop .inv .0) (more g) (goes (o .before .before)) (o .turn-of .result) (told o) (e .before .before .before .chosen .ensures) (e .before .before .chosen2 .ensures) (e .before .chosen3 .ensures) (e .chosen4 .ensures)
 
 element-write-lower : tie.Need-element-write-lower Inv-loop μ-loop
 element-write-lower c = omega arith
 
+element-write-left : tie.Need-element-write-left Inv-loop μ-loop
+element-write-left c = omega arith
+
+element-write-bottom : tie.Need-element-write-bottom Inv-loop μ-loop
+element-write-bottom c = omega arith
+
 loop-holds : tie.Need-loop-holds Inv-loop μ-loop
-loop-holds c = let s = c .before in (counted-first (tripleIn (s .args .body .now)) (s .args .lower .now) _ _ (s .pre .1) refl refl, s .pre .0 .0)
+loop-holds c = let s = c .before in (counted-first (tripleIn (s .args .body .now)) (s .args .lower .now) _ _ (s .pre .1 .0) refl refl, placed-first (tripleIn (s .args .body .now)) down (s .args .left .now) _ (s .pre .1 .1) refl refl, placed-first (tripleIn (s .args .body .now)) up (s .args .bottom .now) _ (s .pre .1 .2) refl refl, s .pre .0 .0)
 
 add-loop : tie.Need-add-loop Inv-loop μ-loop
 add-loop c = search needs
@@ -96,72 +105,122 @@ returns c =
 turn-of-requires : tie.Need-turn-of-requires Inv-loop μ-loop
 turn-of-requires c κs = c .before .before .before .before .group .ensures .1
 
+array-read-chosen : tie.Need-array-read-chosen Inv-loop μ-loop
+array-read-chosen c = omega (arith, few (c .before .before .before .before .before))
+
+chosen-requires : tie.Need-chosen-requires Inv-loop μ-loop
+chosen-requires c κs = rises-small (told c)
+
+array-read-chosen-2 : tie.Need-array-read-chosen-2 Inv-loop μ-loop
+array-read-chosen-2 c = omega (arith, few (c .before .before .before .before .before .before))
+
+chosen-requires-2 : tie.Need-chosen-requires-2 Inv-loop μ-loop
+chosen-requires-2 c κs = falls-small (told (c .before))
+
+chosen-requires-3 : tie.Need-chosen-requires-3 Inv-loop μ-loop
+chosen-requires-3 c κs = below-small (told (c .before .before))
+
 add-below : tie.Need-add-below Inv-loop μ-loop
 add-below c = search needs
 
 array-write-below : tie.Need-array-write-below Inv-loop μ-loop
-array-write-below c = let g = c .before .before .before .before .before in omega (arith, few g)
+array-write-below c = omega (arith, few (c .before .before .before .before .before .before .before .before))
 
 add-above : tie.Need-add-above Inv-loop μ-loop
 add-above c = search needs
 
 array-write-above : tie.Need-array-write-above Inv-loop μ-loop
-array-write-above c = let g = c .before .before .before .before .before in omega (arith, few g)
-
-cast-labels-below : tie.Need-cast-labels-below Inv-loop μ-loop
-cast-labels-below c = search needs
-
-add-labels-below : tie.Need-add-labels-below Inv-loop μ-loop
-add-labels-below c = let e = c .before in let g = e .before .before .before .before .before in omega (arith, few g, rises-small (told e))
-
-array-read-labels-below : tie.Need-array-read-labels-below Inv-loop μ-loop
-array-read-labels-below c = let e = c .before in let g = e .before .before .before .before .before in omega (arith, few g, rises-small (told e))
-
-mul-labels-below : tie.Need-mul-labels-below Inv-loop μ-loop
-mul-labels-below c = omega (arith, fit (c .before .before))
+array-write-above c = omega (arith, few (c .before .before .before .before .before .before .before .before))
 
 add-size : tie.Need-add-size Inv-loop μ-loop
-add-size c = omega (arith, fit (c .before .before))
+add-size c =
+    let o = c .before .before .before in
+    let g = o .before .before .before .before .before in
+    omega (arith, small (g .before .before .loop .inv .0) (more g) (goes (o .before .before)) (o .turn-of .result) (told o) (c .before .before .chosen .ensures) (c .before .chosen2 .ensures) (c .chosen3 .ensures) refl)
 
-cast-size : tie.Need-cast-size Inv-loop μ-loop
-cast-size c = search needs
+chosen-requires-4 : tie.Need-chosen-requires-4 Inv-loop μ-loop
+chosen-requires-4 c κs = above-small (told (c .before .before .before))
 
 add-size-2 : tie.Need-add-size-2 Inv-loop μ-loop
-add-size-2 c = let e = c .before .before .before in let g = e .before .before .before .before .before in omega (arith, few g, falls-small (told e))
+add-size-2 c = omega (arith, fit c)
 
-array-read-size : tie.Need-array-read-size Inv-loop μ-loop
-array-read-size c = let e = c .before .before .before in let g = e .before .before .before .before .before in omega (arith, few g, falls-small (told e))
+add-next : tie.Need-add-next Inv-loop μ-loop
+add-next c = omega (arith, more (c .before .before .before .before .before .before .before .before .before))
 
-mul-size : tie.Need-mul-size Inv-loop μ-loop
-mul-size c = omega (arith, fit (c .before .before .before .before))
+cast-newest-below : tie.Need-cast-newest-below Inv-loop μ-loop
+cast-newest-below c = omega (arith, more (c .before .before .before .before .before .before .before .before .before))
 
-add-size-3 : tie.Need-add-size-3 Inv-loop μ-loop
-add-size-3 c = omega (arith, fit (c .before .before .before .before))
+add-newest-below : tie.Need-add-newest-below Inv-loop μ-loop
+add-newest-below c = omega (arith, few (c .before .before .before .before .before .before .before .before .before))
 
-add-lower : tie.Need-add-lower Inv-loop μ-loop
-add-lower c = let g = c .before .before .before .before .before .before .before .before .before in omega (arith, more g)
+array-write-newest-below : tie.Need-array-write-newest-below Inv-loop μ-loop
+array-write-newest-below c = omega (arith, few (c .before .before .before .before .before .before .before .before .before))
+
+cast-newest-above : tie.Need-cast-newest-above Inv-loop μ-loop
+cast-newest-above c = omega (arith, more (c .before .before .before .before .before .before .before .before .before))
+
+add-newest-above : tie.Need-add-newest-above Inv-loop μ-loop
+add-newest-above c = omega (arith, few (c .before .before .before .before .before .before .before .before .before))
+
+array-write-newest-above : tie.Need-array-write-newest-above Inv-loop μ-loop
+array-write-newest-above c = omega (arith, few (c .before .before .before .before .before .before .before .before .before))
 
 element-write-lower-2 : tie.Need-element-write-lower-2 Inv-loop μ-loop
-element-write-lower-2 c = let g = c .before .before .before .before .before .before .before .before .before in omega (arith, more g)
+element-write-lower-2 c = omega (arith, more (c .before .before .before .before .before .before .before .before .before))
 
-add-k : tie.Need-add-k Inv-loop μ-loop
-add-k c = let g = c .before .before .before .before .before .before .before .before .before in omega (arith, more g)
+cast-left : tie.Need-cast-left Inv-loop μ-loop
+cast-left c = omega (arith, rises-small (told (c .before .before .before .before .before)))
+
+add-left : tie.Need-add-left Inv-loop μ-loop
+add-left c = omega (arith, few (c .before .before .before .before .before .before .before .before .before .before), rises-small (told (c .before .before .before .before .before)))
+
+array-read-left : tie.Need-array-read-left Inv-loop μ-loop
+array-read-left c = omega (arith, few (c .before .before .before .before .before .before .before .before .before .before), rises-small (told (c .before .before .before .before .before)))
+
+element-write-left-2 : tie.Need-element-write-left-2 Inv-loop μ-loop
+element-write-left-2 c = omega (arith, more (c .before .before .before .before .before .before .before .before .before .before))
+
+cast-bottom : tie.Need-cast-bottom Inv-loop μ-loop
+cast-bottom c = omega (arith, falls-small (told (c .before .before .before .before .before .before)))
+
+add-bottom : tie.Need-add-bottom Inv-loop μ-loop
+add-bottom c = omega (arith, few (c .before .before .before .before .before .before .before .before .before .before .before), falls-small (told (c .before .before .before .before .before .before)))
+
+array-read-bottom : tie.Need-array-read-bottom Inv-loop μ-loop
+array-read-bottom c = omega (arith, few (c .before .before .before .before .before .before .before .before .before .before .before), falls-small (told (c .before .before .before .before .before .before)))
+
+element-write-bottom-2 : tie.Need-element-write-bottom-2 Inv-loop μ-loop
+element-write-bottom-2 c = omega (arith, more (c .before .before .before .before .before .before .before .before .before .before .before))
 
 loop-less : tie.Need-loop-less Inv-loop μ-loop
-loop-less c = search needs
+loop-less c = omega (arith, c .before .before .before .before .before .before .before .before .before .before .before .before .loop-test .taken)
 
 loop-again : tie.Need-loop-again Inv-loop μ-loop
 loop-again c =
-    let e = c .before .before .before .before in
-    let g = e .before .before .before .before .before in
-    (turned (g .before .before .loop .inv .0) (more g) (goes (e .before .before)) (e .turn-of .result) (told e), g .before .loop-test .taken)
+    let e = c .before .before in
+    let o = e .before .before .before .before in
+    let g = o .before .before .before .before .before in
+    let now = g .before .before .loop .inv in
+    let next = meets (now .0) (more g) (goes (o .before .before)) in
+    let says = told o in (
+      turned (now .0) (more g) (goes (o .before .before)) (o .turn-of .result) says (e .before .before .before .chosen .ensures) (e .before .before .chosen2 .ensures) (e .before .chosen3 .ensures) (e .chosen4 .ensures),
+      placed-next (now .1) (more g) (omega (arith, few g)) _ _ (says .rises-is) (next .0),
+      placed-next (now .2) (more g) (omega (arith, few g)) _ _ (says .falls-is) (next .1),
+      g .before .loop-test .taken,
+    )
 
 returns-2 : tie.Need-returns-2 Inv-loop μ-loop
 returns-2 c =
     let l = c .before in
     let n = l .before .before .args .n in
-    let e : n - 1 ≡ l .loop .k = omega (arith, l .loop .inv .1, c .loop-test .left) in
-    (sym (ap (walk (tripleIn (l .before .before .args .body .now))) e ∙ l .loop .inv .0 .walked), λ i h. l .loop .inv .0 .lowers i (omega (arith, c .loop-test .left)))
+    let e : n - 1 ≡ l .loop .k = omega (arith, l .loop .inv .3, c .loop-test .left) in (
+      sym (ap (walk (tripleIn (l .before .before .args .body .now))) e ∙ l .loop .inv .0 .walked),
+      (
+        λ i h. l .loop .inv .0 .lowers i (omega (arith, c .loop-test .left)),
+        record { size = l .loop .inv .1 .room-starts; at = λ i h. l .loop .inv .1 .starts-are i (omega (arith, c .loop-test .left)) },
+        record { size = l .loop .inv .2 .room-starts; at = λ i h. l .loop .inv .2 .starts-are i (omega (arith, c .loop-test .left)) },
+      ),
+    )
 
 pub forward-spec : {M : Type 1} → statement M
 forward-spec =
@@ -170,6 +229,8 @@ forward-spec =
     Inv-loop
     μ-loop
     element-write-lower
+    element-write-left
+    element-write-bottom
     loop-holds
     add-loop
     group-requires
@@ -178,23 +239,34 @@ forward-spec =
     enum-told
     returns
     turn-of-requires
+    array-read-chosen
+    chosen-requires
+    array-read-chosen-2
+    chosen-requires-2
+    chosen-requires-3
     add-below
     array-write-below
     add-above
     array-write-above
-    cast-labels-below
-    add-labels-below
-    array-read-labels-below
-    mul-labels-below
     add-size
-    cast-size
+    chosen-requires-4
     add-size-2
-    array-read-size
-    mul-size
-    add-size-3
-    add-lower
+    add-next
+    cast-newest-below
+    add-newest-below
+    array-write-newest-below
+    cast-newest-above
+    add-newest-above
+    array-write-newest-above
     element-write-lower-2
-    add-k
+    cast-left
+    add-left
+    array-read-left
+    element-write-left-2
+    cast-bottom
+    add-bottom
+    array-read-bottom
+    element-write-bottom-2
     loop-less
     loop-again
     returns-2)
