@@ -1,0 +1,45 @@
+-- Rooms and the outline. "A room is four unsigned 16-bit numbers: left, bottom, right, top. Right is greater than left and top greater than bottom; y grows upward.
+-- The outline is the smallest box round all rooms and may start anywhere." "The list may stand in any order."
+use mathlib.Core.Path.{_≡_}
+use mathlib.Core.Logic.{_⊎_}
+use mathlib.Core.List.{List}
+use Prim.Native.Nat.{ℕ, zero, suc, _<_, min, max}
+use lib.ListN.{length, getD}
+use Rattle.finite.specs.Search.{Some, Each}
+use Rattle.drawing.specs.declared.Room.{Room}
+-- a room covers the unit square (x, y), the one from the point (x, y) to the point (x + 1, y + 1)
+pub use Rattle.drawing.specs.Squares.{Covers}
+
+-- room i of a list: a room goes by its place there, counted from 0
+abbrev pub roomIn : List Room → ℕ → Room
+roomIn rooms i = getD rooms i (record { left = 0; bottom = 0; right = 0; top = 0 })
+
+-- some room of the list has the property
+abbrev pub SomeRoom : List Room → (ℕ → Type 0) → Type 0
+SomeRoom rooms P = Some P 0 (length rooms)
+
+-- "four unsigned 16-bit numbers": each corner of each room is one
+abbrev pub SixteenBits : List Room → Type 0
+SixteenBits rooms = Each (λ i. (roomIn rooms i .left < 65536) × (roomIn rooms i .bottom < 65536) × (roomIn rooms i .right < 65536) × (roomIn rooms i .top < 65536)) 0 (length rooms)
+
+-- the point (x, y) is a corner of the room
+abbrev pub Corner : Room → (x y : ℕ) → Type 0
+Corner room x y = ((room .left ≡ x) ⊎ (room .right ≡ x)) × ((room .bottom ≡ y) ⊎ (room .top ≡ y))
+
+-- the least and the greatest of f 0 to f (n - 1)
+unfoldable pub least : (ℕ → ℕ) → (n : ℕ) → ℕ
+least f zero = f 0
+least f (suc n) = min (f n) (least f n)
+
+unfoldable pub greatest : (ℕ → ℕ) → (n : ℕ) → ℕ
+greatest f zero = 0
+greatest f (suc n) = max (f n) (greatest f n)
+
+-- "the smallest box round all rooms"
+abbrev pub outline : List Room → Room
+outline rooms = record {
+  left = least (λ i. roomIn rooms i .left) (length rooms);
+  bottom = least (λ i. roomIn rooms i .bottom) (length rooms);
+  right = greatest (λ i. roomIn rooms i .right) (length rooms);
+  top = greatest (λ i. roomIn rooms i .top) (length rooms);
+}
