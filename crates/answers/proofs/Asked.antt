@@ -1,12 +1,11 @@
 -- What reading a record tells the two calls: the refusal is theirs too, or the record is not refused for what both look at.
 use mathlib.Core.Bool.{Bool}
 use mathlib.Core.List.{List}
-use mathlib.Core.Logic.{_≢_, _⊎_, inl, inr, if-pos, if-neg}
+use mathlib.Core.Logic.{_≢_, _⊎_, inl, inr}
 use mathlib.Core.Path.{_≡_, sym, ap, subst, _∙_}
 use Prim.Native.Nat.{ℕ, _≤_, _<_}
-use native.Mathlib.Decide.{ℕ-discrete}
 use native.Mathlib.Omega.{arith}
-use Rattle.finite.specs.Decide.{Tells, tells-holds}
+use Rattle.finite.specs.Decide.{Tells}
 use Rattle.record.specs.Labels.{labelAt}
 use Rattle.record.specs.Read.{kindOf, labelsOf}
 use Rattle.record.specs.Checked.{checked, Sorted, refused, read, sorted, refused-checked, readable-checked}
@@ -15,11 +14,10 @@ use Rattle.record.specs.declared.Refusal.the-variants.{ShortOutput, PositionOut
 use Rattle.reading.specs.Answer.{readingOf, Ready}
 use Rattle.reading.specs.declared.Reading.{Reading}
 use Rattle.reading.specs.declared.Reading.the-variants as reading
-use Rattle.drawing.specs.Drawing.{roomAt}
 use Rattle.drawing.specs.Relation.{relationOf}
-use Rattle.drawing.specs.Touch.{Touch, dec-touch}
 use Rattle.drawing.specs.declared.Relation.{Relation}
-use Rattle.answers.specs.Answer.{Short, dec-short, recordAnswer, Outside, dec-outside, questionAnswer}
+use Rattle.answers.specs.Demand1.{short, written, demand1-record-answer, Touching, outside, same, related, demand1-question-answer}
+use Rattle.answers.specs.Answer.{Short, recordAnswer, Outside, questionAnswer}
 use Rattle.answers.specs.declared.RecordAnswer.the-variants as recordIn
 use Rattle.answers.specs.declared.QuestionAnswer.the-variants as question
 
@@ -60,35 +58,26 @@ module _ {bytes lower : List ℕ} {n : ℕ} (g : Ready bytes n lower) where
     f = labelAt (labelsOf bytes)
 
     pub outside-answer : Outside first n ⊎ Outside second n → question.Refused PositionOutside ≡ questionAnswer bytes first second
-    outside-answer h =
-        sym (if-pos (dec-outside first second (kindOf bytes)) (subst (λ (m : ℕ). Outside first m ⊎ Outside second m) (g .kind) h) _ _)
-        ∙ readable-checked question.Refused bytes _ (g .readable)
+    outside-answer h = demand1-question-answer bytes first second (outside (g .readable) (subst (λ (m : ℕ). Outside first m ⊎ Outside second m) (g .kind) h))
 
     module _ (inside : ¬ (Outside first n ⊎ Outside second n)) where
       inside-kind : ¬ (Outside first (kindOf bytes) ⊎ Outside second (kindOf bytes))
       inside-kind h = inside (subst (λ (m : ℕ). Outside first m ⊎ Outside second m) (sym (g .kind)) h)
 
       pub same-answer : first ≡ second → question.Refused SamePosition ≡ questionAnswer bytes first second
-      same-answer e =
-          sym (if-neg (dec-outside first second (kindOf bytes)) inside-kind _ _ ∙ if-pos (ℕ-discrete first second) e _ _)
-          ∙ readable-checked question.Refused bytes _ (g .readable)
+      same-answer e = demand1-question-answer bytes first second (same (g .readable) inside-kind e)
 
-      pub related-answer : first ≢ second → {relation : Relation} {touch : Bool} → relation ≡ relationOf f first second → Tells touch (Touch (roomAt f (kindOf bytes) first) (roomAt f (kindOf bytes) second))
+      pub related-answer : first ≢ second → {relation : Relation} {touch : Bool} → relation ≡ relationOf f first second → Tells touch (Touching bytes first second)
           → question.Related relation touch ≡ questionAnswer bytes first second
-      related-answer differ {relation} {touch} related touches =
-          (λ i. question.Related (related i) (sym (tells-holds (dec-touch (roomAt f (kindOf bytes) first) (roomAt f (kindOf bytes) second)) touch touches) i))
-          ∙ sym (if-neg (dec-outside first second (kindOf bytes)) inside-kind _ _ ∙ if-neg (ℕ-discrete first second) differ _ _)
-          ∙ readable-checked question.Refused bytes _ (g .readable)
+      related-answer differ {touch = touch} is touches =
+          (λ i. question.Related (is i) touch) ∙ demand1-question-answer bytes first second (related (g .readable) inside-kind differ touches)
 
   -- ---- Record in's answers
   module _ (labels left bottom right top : ℕ) where
     pub short-answer : Short n labels left bottom right top → recordIn.Refused ShortOutput ≡ recordAnswer bytes labels left bottom right top
-    short-answer h =
-        sym (if-pos (dec-short (kindOf bytes) labels left bottom right top) (subst (λ (m : ℕ). Short m labels left bottom right top) (g .kind) h) _ _)
-        ∙ readable-checked recordIn.Refused bytes _ (g .readable)
+    short-answer h = demand1-record-answer bytes labels left bottom right top (short (g .readable) (subst (λ (m : ℕ). Short m labels left bottom right top) (g .kind) h))
 
     pub read-answer : ¬ Short n labels left bottom right top → recordIn.Read n ≡ recordAnswer bytes labels left bottom right top
     read-answer h =
         ap recordIn.Read (g .kind)
-        ∙ sym (if-neg (dec-short (kindOf bytes) labels left bottom right top) (λ s. h (subst (λ (m : ℕ). Short m labels left bottom right top) (sym (g .kind)) s)) _ _)
-        ∙ readable-checked recordIn.Refused bytes _ (g .readable)
+        ∙ demand1-record-answer bytes labels left bottom right top (written (g .readable) (λ s. h (subst (λ (m : ℕ). Short m labels left bottom right top) (sym (g .kind)) s)))

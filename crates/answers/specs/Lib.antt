@@ -1,2 +1,3 @@
 -- Record in and the question.
 pub mod Answer
+pub mod Demand1
