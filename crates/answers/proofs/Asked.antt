@@ -1,23 +1,24 @@
 -- What reading a record tells the two calls: the refusal is theirs too, or the record is not refused for what both look at.
 use mathlib.Core.Bool.{Bool}
 use mathlib.Core.List.{List}
-use mathlib.Core.Logic.{_≢_, _⊎_, inl, inr}
+use mathlib.Core.Logic.{_≢_, _⊎_, inl, inr, if-neg}
 use mathlib.Core.Path.{_≡_, sym, ap, subst, _∙_}
 use Prim.Native.Nat.{ℕ, _≤_, _<_}
 use native.Mathlib.Omega.{arith}
 use Rattle.finite.specs.Decide.{Tells}
 use Rattle.record.specs.Labels.{labelAt}
 use Rattle.record.specs.Read.{kindOf, labelsOf}
-use Rattle.record.specs.Checked.{checked, Sorted, refused, read, sorted, refused-checked, readable-checked}
+use Rattle.record.specs.Checked.{checked, Readable, Sorted, refused, read, sorted, refused-checked, readable-checked}
 use Rattle.record.specs.declared.Refusal.{Refusal}
 use Rattle.record.specs.declared.Refusal.the-variants.{ShortOutput, PositionOutside, SamePosition}
-use Rattle.reading.specs.Answer.{readingOf, Ready}
+use Rattle.reading.specs.Answer.{readingOf}
 use Rattle.reading.specs.declared.Reading.{Reading}
 use Rattle.reading.specs.declared.Reading.the-variants as reading
 use Rattle.drawing.specs.Relation.{relationOf}
 use Rattle.drawing.specs.declared.Relation.{Relation}
 use Rattle.answers.specs.Demand1.{short, written, demand1-record-answer, Touching, outside, same, related, demand1-question-answer}
-use Rattle.answers.specs.Answer.{Short, recordAnswer, Outside, questionAnswer}
+use Rattle.answers.specs.Answer.{Short, dec-short, recordAnswer, Outside, questionAnswer}
+use Rattle.answers.specs.declared.RecordAnswer.{RecordAnswer}
 use Rattle.answers.specs.declared.RecordAnswer.the-variants as recordIn
 use Rattle.answers.specs.declared.QuestionAnswer.the-variants as question
 
@@ -51,33 +52,62 @@ same-refusal refuse bytes good refusal e = go (sorted bytes)
     go (refused cause) = ap (λ (r : Reading). refuse (refusalOf r refusal)) (e ∙ sym (refused-checked reading.Refused bytes (reading.Read (kindOf bytes)) cause)) ∙ refused-checked refuse bytes good cause
     go (read all) = absurd (subst Is-read (sym (e ∙ sym (readable-checked reading.Refused bytes (reading.Read (kindOf bytes)) all))) tt)
 
-module _ {bytes lower : List ℕ} {n : ℕ} (g : Ready bytes n lower) where
+-- a record that is read has as many rooms as its first byte says
+pub was-read : (bytes : List ℕ) (n : ℕ) → reading.Read n ≡ readingOf bytes → (n ≡ kindOf bytes) × Readable bytes
+was-read bytes n e = go (sorted bytes)
+  where
+    go : Sorted bytes → (n ≡ kindOf bytes) × Readable bytes
+    go (refused cause) = absurd (subst Is-read (e ∙ sym (refused-checked reading.Refused bytes (reading.Read (kindOf bytes)) cause)) tt)
+    go (read all) = (ap countOf (e ∙ sym (readable-checked reading.Refused bytes (reading.Read (kindOf bytes)) all)), all)
+
+-- ---- 255 places are enough for any record
+abbrev pub readingFor : RecordAnswer → Reading
+readingFor (recordIn.Read n) = reading.Read n
+readingFor (recordIn.Refused refusal) = reading.Refused refusal
+
+module _ (bytes : List ℕ) (byte : kindOf bytes ≤ 255) where
+  enough : ¬ Short (kindOf bytes) 255 255 255 255 255
+  enough (inl s) = omega arith
+  enough (inr (inl s)) = omega arith
+  enough (inr (inr (inl s))) = omega arith
+  enough (inr (inr (inr (inl s)))) = omega arith
+  enough (inr (inr (inr (inr s)))) = omega arith
+
+  -- so Record in reads and refuses what reading does
+  pub reading-same : readingFor (recordAnswer bytes 255 255 255 255 255) ≡ readingOf bytes
+  reading-same = ap (λ (good : RecordAnswer). readingFor (checked recordIn.Refused bytes good)) (if-neg (dec-short (kindOf bytes) 255 255 255 255 255) enough _ _) ∙ go (sorted bytes)
+    where
+      go : Sorted bytes → readingFor (checked recordIn.Refused bytes (recordIn.Read (kindOf bytes))) ≡ readingOf bytes
+      go (refused cause) = ap readingFor (sym (refused-checked recordIn.Refused bytes _ cause)) ∙ refused-checked reading.Refused bytes _ cause
+      go (read all) = ap readingFor (sym (readable-checked recordIn.Refused bytes _ all)) ∙ readable-checked reading.Refused bytes _ all
+
+module _ {bytes : List ℕ} {n : ℕ} (kind : n ≡ kindOf bytes) (readable : Readable bytes) where
   -- ---- the question's answers
   module _ (first second : ℕ) where
     abbrev f : ℕ → ℕ
     f = labelAt (labelsOf bytes)
 
     pub outside-answer : Outside first n ⊎ Outside second n → question.Refused PositionOutside ≡ questionAnswer bytes first second
-    outside-answer h = demand1-question-answer bytes first second (outside (g .readable) (subst (λ (m : ℕ). Outside first m ⊎ Outside second m) (g .kind) h))
+    outside-answer h = demand1-question-answer bytes first second (outside readable (subst (λ (m : ℕ). Outside first m ⊎ Outside second m) kind h))
 
     module _ (inside : ¬ (Outside first n ⊎ Outside second n)) where
       inside-kind : ¬ (Outside first (kindOf bytes) ⊎ Outside second (kindOf bytes))
-      inside-kind h = inside (subst (λ (m : ℕ). Outside first m ⊎ Outside second m) (sym (g .kind)) h)
+      inside-kind h = inside (subst (λ (m : ℕ). Outside first m ⊎ Outside second m) (sym kind) h)
 
       pub same-answer : first ≡ second → question.Refused SamePosition ≡ questionAnswer bytes first second
-      same-answer e = demand1-question-answer bytes first second (same (g .readable) inside-kind e)
+      same-answer e = demand1-question-answer bytes first second (same readable inside-kind e)
 
       pub related-answer : first ≢ second → {relation : Relation} {touch : Bool} → relation ≡ relationOf f first second → Tells touch (Touching bytes first second)
           → question.Related relation touch ≡ questionAnswer bytes first second
       related-answer differ {touch = touch} is touches =
-          (λ i. question.Related (is i) touch) ∙ demand1-question-answer bytes first second (related (g .readable) inside-kind differ touches)
+          (λ i. question.Related (is i) touch) ∙ demand1-question-answer bytes first second (related readable inside-kind differ touches)
 
   -- ---- Record in's answers
   module _ (labels left bottom right top : ℕ) where
     pub short-answer : Short n labels left bottom right top → recordIn.Refused ShortOutput ≡ recordAnswer bytes labels left bottom right top
-    short-answer h = demand1-record-answer bytes labels left bottom right top (short (g .readable) (subst (λ (m : ℕ). Short m labels left bottom right top) (g .kind) h))
+    short-answer h = demand1-record-answer bytes labels left bottom right top (short readable (subst (λ (m : ℕ). Short m labels left bottom right top) kind h))
 
     pub read-answer : ¬ Short n labels left bottom right top → recordIn.Read n ≡ recordAnswer bytes labels left bottom right top
     read-answer h =
-        ap recordIn.Read (g .kind)
-        ∙ demand1-record-answer bytes labels left bottom right top (written (g .readable) (λ s. h (subst (λ (m : ℕ). Short m labels left bottom right top) (sym (g .kind)) s)))
+        ap recordIn.Read kind
+        ∙ demand1-record-answer bytes labels left bottom right top (written readable (λ s. h (subst (λ (m : ℕ). Short m labels left bottom right top) (sym kind) s)))

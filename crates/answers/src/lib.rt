@@ -78,10 +78,11 @@ pub fn record_in(
     ensures rights { λ r. ⌜ now (right .exit) ≡ written r (rightsOf (labelsOf (now («record» .entry)))) (now (right .entry)) ⌝ }
     ensures tops { λ r. ⌜ now (top .exit) ≡ written r (topsOf (labelsOf (now («record» .entry)))) (now (top .entry)) ⌝ }
 {
+    let mut triples = [0u8; 255];
     let mut lower = [0u8; 255];
     let mut lefts = [0u8; 255];
     let mut bottoms = [0u8; 255];
-    match reading::check(record, &mut lower, &mut lefts, &mut bottoms) {
+    match reading::check(record, &mut triples, &mut lower, &mut lefts, &mut bottoms) {
         Reading::Refused(refusal) => RecordAnswer::Refused(refusal),
         Reading::Read(n) => {
             if short(
@@ -94,24 +95,33 @@ pub fn record_in(
             ) {
                 return RecordAnswer::Refused(Refusal::ShortOutput);
             }
+            reading::finish(record, n, &triples, &lower, labels, right, top);
             put_front(&lefts, n, left);
             put_front(&bottoms, n, bottom);
-            reading::finish(record, n, &lower, labels, right, top);
             RecordAnswer::Read(n)
         }
     }
 }
 
-// The question: positions are handed in as any number.
+// The question: positions are handed in as any number. Record in is asked with 255 places for each number, which every record has room in.
 pub fn question(record: &[u8], first: u8, second: u8) -> QuestionAnswer
     ensures { λ r. ⌜ r ≡ questionAnswer (now («record» .entry)) first second ⌝ }
 {
-    let mut lower = [0u8; 255];
-    let mut left = [0u8; 255];
-    let mut bottom = [0u8; 255];
-    match reading::check(record, &mut lower, &mut left, &mut bottom) {
-        Reading::Refused(refusal) => QuestionAnswer::Refused(refusal),
-        Reading::Read(n) => {
+    let mut labels = [0u8; 255];
+    let mut left = [0u16; 255];
+    let mut bottom = [0u16; 255];
+    let mut right = [0u16; 255];
+    let mut top = [0u16; 255];
+    match record_in(
+        record,
+        &mut labels,
+        &mut left,
+        &mut bottom,
+        &mut right,
+        &mut top,
+    ) {
+        RecordAnswer::Refused(refusal) => QuestionAnswer::Refused(refusal),
+        RecordAnswer::Read(n) => {
             if outside(first, n) {
                 return QuestionAnswer::Refused(Refusal::PositionOutside);
             }
@@ -121,10 +131,6 @@ pub fn question(record: &[u8], first: u8, second: u8) -> QuestionAnswer
             if first == second {
                 return QuestionAnswer::Refused(Refusal::SamePosition);
             }
-            let mut labels = [0u8; 255];
-            let mut right = [0u16; 255];
-            let mut top = [0u16; 255];
-            reading::finish(record, n, &lower, &mut labels, &mut right, &mut top);
             let relation = drawing::relation_of(&labels, Position(first), Position(second));
             let one = drawing::room_in(&left, &bottom, &right, &top, Position(first));
             let other = drawing::room_in(&left, &bottom, &right, &top, Position(second));

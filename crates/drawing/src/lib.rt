@@ -31,13 +31,6 @@ pub enum Relation {
 
 // ---- one room
 
-// A byte as a corner.
-fn corner(byte: u8) -> u16
-    ensures { λ r. ⌜ r ≡ byte ⌝ }
-{
-    byte as u16
-}
-
 // The index of a position: positions count from 1.
 fn index(position: Position) -> usize
     requires { ⌜ 1 ≤ position .0 ⌝ }
@@ -47,14 +40,14 @@ fn index(position: Position) -> usize
 }
 
 // The room at a position, of which the corners stand in lists by position.
-pub fn room_in(left: &[u8], bottom: &[u8], right: &[u16], top: &[u16], position: Position) -> Room
+pub fn room_in(left: &[u16], bottom: &[u16], right: &[u16], top: &[u16], position: Position) -> Room
     requires { ⌜ (1 ≤ position .0) × (position .0 ≤ length (now left)) × (position .0 ≤ length (now bottom)) × (position .0 ≤ length (now right)) × (position .0 ≤ length (now top)) ⌝ }
     ensures { λ r. ⌜ r ≡ roomIn (now (left .entry)) (now (bottom .entry)) (now (right .entry)) (now (top .entry)) (position .0) ⌝ }
 {
     let i = index(position);
     Room {
-        left: corner(left[i]),
-        bottom: corner(bottom[i]),
+        left: left[i],
+        bottom: bottom[i],
         right: right[i],
         top: top[i],
     }

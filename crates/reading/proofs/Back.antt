@@ -149,13 +149,13 @@ pub record Turned (t : ℕ → Triple) (n i : ℕ) (below above : List ℕ) (p q
   pub after : Left t n (i - 1) below above (p - turn .rises) (q - turn .falls) lowest
 
 module _ {t : ℕ → Triple} {n i : ℕ} {below above : List ℕ} {p q lowest : ℕ} (s : Left t n i below above p q lowest) (accepted : Accepted t n) (small : n ≤ 255)
-    (lower : List ℕ) (lowers : Lowers t n lower) where
+    (lower : List ℕ) (lowers : Lowers t n lower) {noted : ℕ} (noted-is : noted ≡ getD lower i 0) where
   abbrev label : ℕ
-  label = lowest + getD lower i 0
+  label = lowest + noted
 
   pub label-is : label ≡ labelOf t n (suc i)
   unfolding labelOf
-  label-is = omega (arith, s .lowest-is, lowers i (s .within))
+  label-is = omega (arith, s .lowest-is, noted-is, lowers i (s .within))
 
   pub label-small : label < 256
   label-small = omega (arith, label-is, label-few t n i accepted (s .within))
@@ -170,8 +170,8 @@ module _ {t : ℕ → Triple} {n i : ℕ} {below above : List ℕ} {p q lowest :
     abbrev size : ℕ
     size = lowerSize t (suc (suc (i - 1)))
 
-    size-is : getD lower i 0 ≡ size
-    size-is = let e : suc i ≡ suc (suc (i - 1)) = omega arith in lowers i (s .within) ∙ ap (lowerSize t) e
+    size-is : noted ≡ size
+    size-is = let e : suc i ≡ suc (suc (i - 1)) = omega arith in noted-is ∙ lowers i (s .within) ∙ ap (lowerSize t) e
 
     runs-before : takeOut u size y ≡ runsBut t n (n - suc (i - 1))
     unfolding runsBut

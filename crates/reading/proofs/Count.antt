@@ -78,6 +78,9 @@ module _ {t : ℕ → Triple} {k : ℕ} {lower below above : List ℕ} {p q size
       go (triple first second true) = (λ i. now .size-is i ∷ now .above-is i) ∙ sym (stack-pushed true above q size (omega (arith, now .few, now .room-above)))
       go (triple first second false) = now .above-is ∙ sym (stack-pushed false above q size (omega (arith, now .few, now .room-above)))
 
+  pub size-few : size ≤ 255
+  size-few = omega (arith, now .size-is, size-small t k)
+
   pub walk-next : walk t (k + 1) ≡ step u p q
   unfolding walk
   walk-next = ap (walk t) (add-one k) ∙ ap (λ (c : Counts). andThen c (step u)) (now .walked)

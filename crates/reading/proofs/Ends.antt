@@ -17,6 +17,7 @@ use Rattle.reading.specs.Turn.{Says, risesBy, fallsBy}
 use Rattle.reading.specs.Passes.{endAt}
 use Rattle.reading.proofs.Stack.{stackOf, stack-pushed, either}
 use Rattle.reading.proofs.Told.{turnFor, says-turn}
+use Rattle.reading.proofs.Within.{entered-small}
 
 -- ---- the stacks
 -- y is held by the two stacks, of heights p and q, and the ends of the current run
@@ -55,7 +56,7 @@ module _ {y : Entered} {tops rights : List ℕ} {p q end-up end-right : ℕ} (s 
   -- the ends of the current run are as the code chooses them
   ends-out : (u : Triple) (i : ℕ) → risesBy u ≤ p + bit (bitsOf u down) → fallsBy u ≤ q + bit (bitsOf u up)
       → Ends (enteredBefore u i y) tops-next rights-next (p + bit (bitsOf u down) - risesBy u) (q + bit (bitsOf u up) - fallsBy u)
-      (either (risesBy u) (getD tops-next (p + bit (bitsOf u down)) 0) i) (either (fallsBy u) (getD rights-next (q + bit (bitsOf u up)) 0) i)
+      (either (fallsBy u) i (getD tops-next (p + bit (bitsOf u down)) 0)) (either (risesBy u) i (getD rights-next (q + bit (bitsOf u up)) 0))
   unfolding enteredBefore
   ends-out (triple first second false) i enough-below enough-above =
       let under = p + bit second in
@@ -117,16 +118,20 @@ module _ (t : ℕ → Triple) (n i : ℕ) {tops rights : List ℕ} {p q end-up e
 
   abbrev Leaves : Turn → Type 0
   Leaves turn = turn .rises ≤ p + turn .below → turn .falls ≤ q + turn .above
-      → EndsBefore turn (either (turn .rises) (getD (set tops (p + 1) end-up) (p + turn .below) 0) i) (either (turn .falls) (getD (set rights (q + 1) end-right) (q + turn .above) 0) i)
+      → EndsBefore turn (either (turn .falls) i (getD (set tops (p + 1) end-up) (p + turn .below) 0)) (either (turn .rises) i (getD (set rights (q + 1) end-right) (q + turn .above) 0))
 
   leaves : Leaves (turnFor u)
   unfolding turnFor
   leaves b a = rw (entered-before t n i more within) at (ends-out s room-below room-above u i b a)
 
   pub ends-turned : {turn : Turn} {up-next right-next : ℕ} → Says u turn → turn .rises ≤ p + turn .below → turn .falls ≤ q + turn .above
-      → up-next ≡ either (turn .rises) (getD (set tops (p + 1) end-up) (p + turn .below) 0) i → right-next ≡ either (turn .falls) (getD (set rights (q + 1) end-right) (q + turn .above) 0) i
+      → up-next ≡ either (turn .falls) i (getD (set tops (p + 1) end-up) (p + turn .below) 0) → right-next ≡ either (turn .rises) i (getD (set rights (q + 1) end-right) (q + turn .above) 0)
       → EndsBefore turn up-next right-next
   ends-turned {turn} says enough-below enough-above e d = subst₂ (EndsBefore turn) (sym e) (sym d) (subst Leaves (says-turn says) leaves enough-below enough-above)
+
+-- no end is above n
+pub ends-small : (t : ℕ → Triple) (n i : ℕ) {tops rights : List ℕ} {p q end-up end-right : ℕ} → EndsAt t n i tops rights p q end-up end-right → (end-up ≤ n) × (end-right ≤ n)
+ends-small t n i s = let w = entered-small t n (n - suc i) in (omega (arith, s .up-is, w .current down), omega (arith, s .right-is, w .current up))
 
 -- ---- what is written
 -- from index a on, the three slices have the labels and the ends
@@ -143,27 +148,27 @@ written-first t n labels right top some = let e : n ≡ suc (n - 1) = omega arit
 })
 
 module _ {t : ℕ → Triple} {n : ℕ} {labels₀ right₀ top₀ labels right top : List ℕ} (long-labels : n ≤ length labels₀) (long-right : n ≤ length right₀) (long-top : n ≤ length top₀)
-    {tops rights : List ℕ} {p q end-up end-right label corner-right corner-top : ℕ} (right-is : corner-right ≡ end-right) (top-is : corner-top ≡ end-up) where
+    {tops rights : List ℕ} {p q end-up end-right label : ℕ} where
   -- at index i comes one more of each
   written-on : {i : ℕ} → Written t n (suc i) labels₀ right₀ top₀ labels right top → i < n → EndsAt t n i tops rights p q end-up end-right → label ≡ labelOf t n (suc i)
-      → Written t n i labels₀ right₀ top₀ (set labels i label) (set right i corner-right) (set top i corner-top)
+      → Written t n i labels₀ right₀ top₀ (set labels i label) (set right i end-right) (set top i end-up)
   written-on w within s l = record {
     labels-are = filling-down label (w .labels-are) within (omega arith) l;
-    rights-are = filling-down corner-right (w .rights-are) within (omega arith) (right-is ∙ sym (s .right-is));
-    tops-are = filling-down corner-top (w .tops-are) within (omega arith) (top-is ∙ sym (s .up-is));
+    rights-are = filling-down end-right (w .rights-are) within (omega arith) (sym (s .right-is));
+    tops-are = filling-down end-up (w .tops-are) within (omega arith) (sym (s .up-is));
   }
 
   pub written-turned : {i : ℕ} → Written t n (suc i) labels₀ right₀ top₀ labels right top → 0 < i → i < n → EndsAt t n i tops rights p q end-up end-right → label ≡ labelOf t n (suc i)
-      → Written t n (suc (i - 1)) labels₀ right₀ top₀ (set labels i label) (set right i corner-right) (set top i corner-top)
+      → Written t n (suc (i - 1)) labels₀ right₀ top₀ (set labels i label) (set right i end-right) (set top i end-up)
   written-turned {i} w more within s l =
       let e : i ≡ suc (i - 1) = omega arith in
-      subst (λ (a : ℕ). Written t n a labels₀ right₀ top₀ (set labels i label) (set right i corner-right) (set top i corner-top)) e (written-on w within s l)
+      subst (λ (a : ℕ). Written t n a labels₀ right₀ top₀ (set labels i label) (set right i end-right) (set top i end-up)) e (written-on w within s l)
 
   -- at index 0, the last of them
   pub written-last : {i : ℕ} → Written t n (suc i) labels₀ right₀ top₀ labels right top → i ≡ 0 → i < n → EndsAt t n i tops rights p q end-up end-right → label ≡ labelOf t n 1
-      → (set labels 0 label ≡ filled (λ i. labelOf t n (suc i)) n labels₀) × (set right 0 corner-right ≡ filled (endAt t n up) n right₀) × (set top 0 corner-top ≡ filled (endAt t n down) n top₀)
+      → (set labels 0 label ≡ filled (λ i. labelOf t n (suc i)) n labels₀) × (set right 0 end-right ≡ filled (endAt t n up) n right₀) × (set top 0 end-up ≡ filled (endAt t n down) n top₀)
   written-last w e within s l =
       (filling-end (λ i. labelOf t n (suc i)) n (all .labels-are) long-labels, filling-end (endAt t n up) n (all .rights-are) long-right, filling-end (endAt t n down) n (all .tops-are) long-top)
     where
-      all : Written t n 0 labels₀ right₀ top₀ (set labels 0 label) (set right 0 corner-right) (set top 0 corner-top)
+      all : Written t n 0 labels₀ right₀ top₀ (set labels 0 label) (set right 0 end-right) (set top 0 end-up)
       all = written-on (subst (λ (i : ℕ). Written t n (suc i) labels₀ right₀ top₀ labels right top) e w) (omega arith) (subst (λ (i : ℕ). EndsAt t n i tops rights p q end-up end-right) e s) l

@@ -3,6 +3,7 @@ pub mod Stack
 pub mod Table
 pub mod Told
 pub mod Back
+pub mod Within
 pub mod Ends
 pub mod Count
 pub mod Starts

@@ -2,11 +2,14 @@
 -- Where it lies above the current run, that run is one more below it; where it lies below, one more above it.
 use mathlib.Core.Bool.{Bool, true, false}
 use mathlib.Core.List.{List}
-use mathlib.Core.Logic.{_≢_}
-use mathlib.Core.Path.{_≡_, refl, ap, ap₂, _∙_}
-use Prim.Native.Nat.{ℕ, zero, suc, _+_, _-_, _*_, _≤_}
+use mathlib.Core.Logic.{_≢_, inl, inr}
+use mathlib.Core.Path.{_≡_, refl, sym, ap, ap₂, _∙_}
+use Prim.Native.Nat.{ℕ, zero, suc, _+_, _-_, _*_, _≤_, _<_}
 use native.Mathlib.Omega.{arith}
 use native.Mathlib.Nat.{add-zero}
+use lib.ListN.{getD, set, length-set}
+use lib.Seq.{getD-set-same, getD-set-other}
+use Rattle.finite.specs.Decide.{eq-or-ne}
 use Rattle.bits.specs.Bit.{bit, bitAt, groupAt}
 use Rattle.record.specs.Triple.{Triple, triple}
 use Rattle.record.specs.Walk.{Counts, missing, counts, step, andThen, walk}
@@ -15,6 +18,7 @@ use Rattle.record.specs.Record.{tripleIn}
 use Rattle.record.specs.Decode.{bitsOf}
 use Rattle.reading.specs.declared.Turn.{Turn}
 use Rattle.reading.specs.declared.Change.{Change}
+use Rattle.reading.specs.Passes.{Unpacked}
 use Rattle.reading.specs.Turn.{Says, Changes, tripleOf, risesBy, fallsBy}
 
 -- a body's group is its triple's number
@@ -31,6 +35,16 @@ group-triple body k = go (bitAt body (3 * k)) (bitAt body (3 * k + 1)) (bitAt bo
     go true false true = refl
     go true true false = refl
     go true true true = refl
+
+-- one more triple is noted
+pub unpacked-next : {t : ℕ → Triple} {k : ℕ} {numbers : List ℕ} (x : ℕ) → Unpacked t (suc k) numbers → k < 254 → x < 8 → tripleOf x ≡ t (suc (suc k)) → Unpacked t (suc (k + 1)) (set numbers k x)
+unpacked-next {t} {k} {numbers} x u room small is = record { size = length-set numbers k x ∙ u .size; at = at }
+  where
+    at : (i : ℕ) → suc i < suc (k + 1) → (getD (set numbers k x) i 0 < 8) × (tripleOf (getD (set numbers k x) i 0) ≡ t (suc (suc i)))
+    at i h = elim (eq-or-ne i k) [
+      | inl e ↦ let same : getD (set numbers k x) i 0 ≡ x = ap (λ (j : ℕ). getD (set numbers k x) j 0) e ∙ getD-set-same numbers k x 0 (omega (arith, u .size)) in (omega arith, ap tripleOf same ∙ is ∙ ap (λ (j : ℕ). t (suc (suc j))) (sym e))
+      | inr e ↦ let same = getD-set-other numbers k i x 0 e in let old = u .at i (omega arith) in (omega arith, ap tripleOf same ∙ old .1)
+    ]
 
 -- what the counts after a step from p and q have to do with those before it, where no run is missing
 abbrev pub Meets : Triple → (p q : ℕ) → Counts → Type 0

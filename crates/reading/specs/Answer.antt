@@ -7,7 +7,7 @@ use Rattle.record.specs.Way.{up, down}
 use Rattle.record.specs.Record.{tripleIn}
 use Rattle.record.specs.Read.{kindOf, bodyOf}
 use Rattle.record.specs.Checked.{checked, Readable}
-use Rattle.reading.specs.Passes.{Lowers, Starts}
+use Rattle.reading.specs.Passes.{Unpacked, Lowers, Starts}
 use Rattle.reading.specs.declared.Reading.{Reading}
 use Rattle.reading.specs.declared.Reading.the-variants.{Read, Refused}
 
@@ -19,13 +19,14 @@ abbrev pub triplesOf : List ℕ → ℕ → Triple
 triplesOf bytes = tripleIn (bodyOf bytes)
 
 -- a record of n labels that is not refused, with what the pass back needs of each label
-pub record Ready (bytes : List ℕ) (n : ℕ) (lower : List ℕ) : Type 0 where
+pub record Ready (bytes : List ℕ) (n : ℕ) (numbers lower : List ℕ) : Type 0 where
   pub kind : n ≡ kindOf bytes
   pub some : 1 ≤ n
   pub few : n ≤ 255
   pub readable : Readable bytes
+  pub unpacked : Unpacked (triplesOf bytes) n numbers
   pub lowers : Lowers (triplesOf bytes) n lower
 
-abbrev pub Reads : Reading → (bytes lower left bottom : List ℕ) → Type 0
-Reads (Read n) bytes lower left bottom = Ready bytes n lower × Starts down (triplesOf bytes) n left × Starts up (triplesOf bytes) n bottom
-Reads (Refused refusal) bytes lower left bottom = Unit
+abbrev pub Reads : Reading → (bytes numbers lower left bottom : List ℕ) → Type 0
+Reads (Read n) bytes numbers lower left bottom = Ready bytes n numbers lower × Starts down (triplesOf bytes) n left × Starts up (triplesOf bytes) n bottom
+Reads (Refused refusal) bytes numbers lower left bottom = Unit

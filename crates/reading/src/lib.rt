@@ -15,7 +15,7 @@ ghost use Rattle.record.specs.Decode.{labelOf};
 ghost use Rattle.record.specs.Read.{labelsOf};
 ghost use Rattle.reading.specs.Turn.{Says, Changes, tripleOf};
 ghost use Rattle.reading.specs.Answer.{readingOf, Reads, Ready, triplesOf};
-ghost use Rattle.reading.specs.Passes.{endCounts, Noted, Lowers, endAt};
+ghost use Rattle.reading.specs.Passes.{endCounts, Unpacked, Noted, Lowers, endAt};
 use record::Refusal;
 
 // A byte as an index.
@@ -25,19 +25,12 @@ fn wide(byte: u8) -> usize
     byte as usize
 }
 
-// A byte as a corner.
-fn corner(byte: u8) -> u16
-    ensures { λ r. ⌜ r ≡ byte ⌝ }
-{
-    byte as u16
-}
-
 // What a triple says of the new label, each 1 or 0: it is joined to a run above it, to a run below it; it lies above the current run, below it.
 struct Turn {
-    above: u8,
-    below: u8,
-    rises: u8,
-    falls: u8,
+    above: usize,
+    below: usize,
+    rises: usize,
+    falls: usize,
 }
 
 // A triple's three bits, of which the first is worth 4, taken apart.
@@ -45,10 +38,11 @@ fn turn_of(triple: u8) -> Turn
     requires { ⌜ triple < 8 ⌝ }
     ensures { λ r. ⌜ Says (tripleOf triple) r ⌝ }
 {
-    let falls = triple & 1;
+    let number = wide(triple);
+    let falls = number & 1;
     Turn {
-        above: triple >> 2,
-        below: (triple >> 1) & 1,
+        above: number >> 2,
+        below: (number >> 1) & 1,
         rises: 1 - falls,
         falls,
     }
@@ -101,7 +95,7 @@ fn step(triple: u8, below: usize, above: usize) -> RunCounts
 }
 
 // One of two numbers, as a bit says. The compiler makes no jump of it, which could not be foreseen.
-fn chosen(bit: u8, one: u8, zero: u8) -> u8
+fn chosen(bit: usize, one: usize, zero: usize) -> usize
     requires { ⌜ bit ≤ 1 ⌝ }
     ensures { λ r. ⌜ r ≡ bit * one + (1 - bit) * zero ⌝ }
 {
@@ -111,18 +105,27 @@ fn chosen(bit: u8, one: u8, zero: u8) -> u8
     zero
 }
 
+// The same, where a byte is taken for 0.
+fn chosen_byte(bit: usize, one: usize, zero: u8) -> usize
+    requires { ⌜ bit ≤ 1 ⌝ }
+    ensures { λ r. ⌜ r ≡ bit * one + (1 - bit) * zero ⌝ }
+{
+    chosen(bit, one, wide(zero))
+}
+
 // The walk, with the size and the newest position of each run: a stack of each for the runs below and one for those above, the nearest run's on top. Each
-// turn pushes the current run's on both; the counts of runs say how much of a stack is in use. Of each position, how many labels of its run lie below it is
-// noted, and the newest positions in the runs next below and next above its label.
+// turn pushes the current run's on both; the counts of runs say how much of a stack is in use. The triples are noted by their numbers; of each position, how
+// many labels of its run lie below it is noted, and the newest positions in the runs next below and next above its label.
 fn forward(
     body: &[u8],
     n: usize,
+    triples: &mut [u8; 255],
     lower: &mut [u8; 255],
     left: &mut [u8; 255],
     bottom: &mut [u8; 255],
 ) -> RunCounts
-    requires { ⌜ (1 ≤ n) × (n ≤ 255) × (length (now body) ≡ bodyLength n) ⌝ ∗ ⌜ (length (now lower) ≡ 255) × (length (now left) ≡ 255) × (length (now bottom) ≡ 255) ⌝ }
-    ensures { λ r. ⌜ (endCounts r ≡ walk (tripleIn (now (body .entry))) (n - 1)) × Noted r (tripleIn (now (body .entry))) n (now (lower .exit)) (now (left .exit)) (now (bottom .exit)) ⌝ }
+    requires { ⌜ (1 ≤ n) × (n ≤ 255) × (length (now body) ≡ bodyLength n) ⌝ ∗ ⌜ (length (now triples) ≡ 255) × (length (now lower) ≡ 255) × (length (now left) ≡ 255) × (length (now bottom) ≡ 255) ⌝ }
+    ensures { λ r. ⌜ (endCounts r ≡ walk (tripleIn (now (body .entry))) (n - 1)) × Noted r (tripleIn (now (body .entry))) n (now (triples .exit)) (now (lower .exit)) (now (left .exit)) (now (bottom .exit)) ⌝ }
 {
     let mut below = [0u8; 255];
     let mut above = [0u8; 255];
@@ -130,29 +133,30 @@ fn forward(
     let mut newest_above = [0u8; 255];
     let mut runs_below = 0;
     let mut runs_above = 0;
-    let mut size: u8 = 1;
+    let mut size = 1;
     lower[0] = 0;
     left[0] = 0;
     bottom[0] = 0;
     let mut k = 0;
     while k + 1 < n {
         let triple = bits::group(body, k);
+        triples[k] = triple;
         let RunCounts::Counted(next_below, next_above) = step(triple, runs_below, runs_above) else {
             return RunCounts::Missing;
         };
         let turn = turn_of(triple);
-        let under = chosen(turn.rises, size, below[runs_below]);
-        let over = chosen(turn.falls, size, above[runs_above]);
+        let under = chosen_byte(turn.rises, size, below[runs_below]);
+        let over = chosen_byte(turn.falls, size, above[runs_above]);
         let labels_below = chosen(turn.below, under, 0);
-        below[runs_below + 1] = size;
-        above[runs_above + 1] = size;
+        below[runs_below + 1] = size as u8;
+        above[runs_above + 1] = size as u8;
         size = 1 + labels_below + chosen(turn.above, over, 0);
         let next = k + 1;
         newest_below[runs_below + 1] = next as u8;
         newest_above[runs_above + 1] = next as u8;
-        lower[next] = labels_below;
-        left[next] = newest_below[runs_below + turn.rises as usize];
-        bottom[next] = newest_above[runs_above + turn.falls as usize];
+        lower[next] = labels_below as u8;
+        left[next] = newest_below[runs_below + turn.rises];
+        bottom[next] = newest_above[runs_above + turn.falls];
         runs_below = next_below;
         runs_above = next_above;
         k = next;
@@ -161,16 +165,18 @@ fn forward(
 }
 
 // The labels from the end, where all are one run: the newest label is taken out of the current run. Of each run below, the stack has the lowest label and the
-// position, less 1, that first came to lie below it; of each run above, the label under it and the position, less 1, that first came to lie above it.
+// position, less 1, that first came to lie below it; of each run above, the label under it and the position, less 1, that first came to lie above it. The body
+// is what the contract speaks of; the triples are read as `forward` noted them.
 pub fn backward(
     body: &[u8],
     n: usize,
+    triples: &[u8; 255],
     lower: &[u8; 255],
     labels: &mut [u8],
     right: &mut [u16],
     top: &mut [u16],
 )
-    requires { ⌜ (1 ≤ n) × (n ≤ 255) × (length (now body) ≡ bodyLength n) × Accepted (tripleIn (now body)) n ⌝ ∗ ⌜ Lowers (tripleIn (now body)) n (now lower) ⌝
+    requires { ⌜ (1 ≤ n) × (n ≤ 255) × (length (now body) ≡ bodyLength n) × Accepted (tripleIn (now body)) n ⌝ ∗ ⌜ Unpacked (tripleIn (now body)) n (now triples) × Lowers (tripleIn (now body)) n (now lower) ⌝
         ∗ ⌜ (n ≤ length (now labels)) × (n ≤ length (now right)) × (n ≤ length (now top)) ⌝ }
     ensures list { λ _. ⌜ now (labels .exit) ≡ filled (λ i. labelOf (tripleIn (now (body .entry))) n (suc i)) n (now (labels .entry)) ⌝ }
     ensures rights { λ _. ⌜ now (right .exit) ≡ filled (endAt (tripleIn (now (body .entry))) n up) n (now (right .entry)) ⌝ }
@@ -182,34 +188,34 @@ pub fn backward(
     let mut rights = [0u8; 255];
     let mut runs_below = 0;
     let mut runs_above = 0;
-    let mut lowest: u8 = 1;
-    let mut end_up = n as u8;
-    let mut end_right = n as u8;
+    let mut lowest = 1;
+    let mut end_up = n;
+    let mut end_right = n;
     let mut i = n - 1;
     while 0 < i {
-        let label = lowest + lower[i];
-        labels[i] = label;
-        right[i] = corner(end_right);
-        top[i] = corner(end_up);
-        let turn = turn_of(bits::group(body, i - 1));
-        let under = runs_below + turn.below as usize;
-        let over = runs_above + turn.above as usize;
-        let low = chosen(turn.below, lowest, below[runs_below]);
-        let high = chosen(turn.above, label, above[runs_above]);
-        below[runs_below + 1] = lowest;
-        above[runs_above + 1] = label;
-        tops[runs_below + 1] = end_up;
-        rights[runs_above + 1] = end_right;
+        let label = lowest + wide(lower[i]);
+        labels[i] = label as u8;
+        right[i] = end_right as u16;
+        top[i] = end_up as u16;
+        let turn = turn_of(triples[i - 1]);
+        let under = runs_below + turn.below;
+        let over = runs_above + turn.above;
+        let low = chosen_byte(turn.below, lowest, below[runs_below]);
+        let high = chosen_byte(turn.above, label, above[runs_above]);
+        below[runs_below + 1] = lowest as u8;
+        above[runs_above + 1] = label as u8;
+        tops[runs_below + 1] = end_up as u8;
+        rights[runs_above + 1] = end_right as u8;
         lowest = chosen(turn.falls, high, low) + turn.falls;
-        end_up = chosen(turn.rises, tops[under], i as u8);
-        end_right = chosen(turn.falls, rights[over], i as u8);
-        runs_below = under - turn.rises as usize;
-        runs_above = over - turn.falls as usize;
+        end_up = chosen_byte(turn.falls, i, tops[under]);
+        end_right = chosen_byte(turn.rises, i, rights[over]);
+        runs_below = under - turn.rises;
+        runs_above = over - turn.falls;
         i -= 1;
     }
-    labels[0] = lowest;
-    right[0] = corner(end_right);
-    top[0] = corner(end_up);
+    labels[0] = lowest as u8;
+    right[0] = end_right as u16;
+    top[0] = end_up as u16;
 }
 
 // Whether a bit after the first `used` is set. They are the low bits of the last byte.
@@ -237,12 +243,13 @@ pub enum Reading {
 // The first refusal of the order whose cause the record has; else how many labels it has, and what is noted of each of them for `finish`.
 pub fn check(
     record: &[u8],
+    triples: &mut [u8; 255],
     lower: &mut [u8; 255],
     left: &mut [u8; 255],
     bottom: &mut [u8; 255],
 ) -> Reading
-    requires { ⌜ (length (now lower) ≡ 255) × (length (now left) ≡ 255) × (length (now bottom) ≡ 255) ⌝ }
-    ensures { λ r. ⌜ (r ≡ readingOf (now («record» .entry))) × Reads r (now («record» .entry)) (now (lower .exit)) (now (left .exit)) (now (bottom .exit)) ⌝ }
+    requires { ⌜ (length (now triples) ≡ 255) × (length (now lower) ≡ 255) × (length (now left) ≡ 255) × (length (now bottom) ≡ 255) ⌝ }
+    ensures { λ r. ⌜ (r ≡ readingOf (now («record» .entry))) × Reads r (now («record» .entry)) (now (triples .exit)) (now (lower .exit)) (now (left .exit)) (now (bottom .exit)) ⌝ }
 {
     if record.len() == 0 {
         return Reading::Refused(Refusal::NoKind);
@@ -263,7 +270,7 @@ pub fn check(
     if spare_bit(body, used) {
         return Reading::Refused(Refusal::SpareBit);
     }
-    match forward(body, n, lower, left, bottom) {
+    match forward(body, n, triples, lower, left, bottom) {
         RunCounts::Missing => Reading::Refused(Refusal::MissingRun),
         RunCounts::Counted(below, above) => {
             if below != 0 {
@@ -281,15 +288,16 @@ pub fn check(
 pub fn finish(
     record: &[u8],
     n: usize,
+    triples: &[u8; 255],
     lower: &[u8; 255],
     labels: &mut [u8],
     right: &mut [u16],
     top: &mut [u16],
 )
-    requires { ⌜ Ready (now «record») n (now lower) ⌝ ∗ ⌜ (n ≤ length (now labels)) × (n ≤ length (now right)) × (n ≤ length (now top)) ⌝ }
+    requires { ⌜ Ready (now «record») n (now triples) (now lower) ⌝ ∗ ⌜ (n ≤ length (now labels)) × (n ≤ length (now right)) × (n ≤ length (now top)) ⌝ }
     ensures list { λ _. ⌜ now (labels .exit) ≡ labelsOf (now («record» .entry)) ++ drop n (now (labels .entry)) ⌝ }
     ensures rights { λ _. ⌜ now (right .exit) ≡ filled (endAt (triplesOf (now («record» .entry))) n up) n (now (right .entry)) ⌝ }
     ensures tops { λ _. ⌜ now (top .exit) ≡ filled (endAt (triplesOf (now («record» .entry))) n down) n (now (top .entry)) ⌝ }
 {
-    backward(&record[1..], n, lower, labels, right, top);
+    backward(&record[1..], n, triples, lower, labels, right, top);
 }

@@ -59,7 +59,7 @@ no-spare e h =
 
 -- the walk's end
 abbrev passed : lts.After-forward (wide-reads.Asked, wide-reads.Learnt, spare-bit-reads.Asked, spare-bit-reads.Learnt, forward-reads.Asked, forward-reads.Learnt) reads.Pre reads.Post → lts.Else5 (wide-reads.Asked, wide-reads.Learnt, spare-bit-reads.Asked, spare-bit-reads.Learnt, forward-reads.Asked, forward-reads.Learnt) reads.Pre reads.Post
-passed f = f .before .before .before .before
+passed f = f .before .before .before .before .before
 
 abbrev kind : lts.Else5 (wide-reads.Asked, wide-reads.Learnt, spare-bit-reads.Asked, spare-bit-reads.Learnt, forward-reads.Asked, forward-reads.Learnt) reads.Pre reads.Post → lts.Else2 (wide-reads.Asked, wide-reads.Learnt, spare-bit-reads.Asked, spare-bit-reads.Learnt, forward-reads.Asked, forward-reads.Learnt) reads.Pre reads.Post
 kind e = e .before .before .before .before .before
@@ -137,7 +137,7 @@ returns-5 c =
 
 forward-requires : tie.Need-forward-requires
 forward-requires c κs =
-    let p = c .before .before .before in
+    let p = c .before .before .before .before in
     let o = kind p in
     ((omega (arith, o .if2 .left), o .before .wide .ensures .1, le-antisymm (p .before .before .if4 .left) (p .before .before .before .if3 .left)), o .before .before .before .before .before .pre)
 
@@ -166,14 +166,15 @@ returns-9 c =
     let f = k .before .before .before in
     let o = kind (passed f) in
     let n = o .before .wide .result in
-    let lower = f .forward .last .1 .1 .0 in
-    let left = f .forward .last .1 .1 .1 .0 in
-    let bottom = f .forward .last .1 .1 .1 .1 .0 in
+    let numbers = f .forward .last .1 .1 .0 in
+    let lower = f .forward .last .1 .1 .1 .0 in
+    let left = f .forward .last .1 .1 .1 .1 .0 in
+    let bottom = f .forward .last .1 .1 .1 .1 .1 .0 in
     let t = tripleIn (take (length (bytes o) - 1) (drop 1 (bytes o))) in
-    let noted : Noted (Counted (k .before .below .given .0 .0) (k .before .below .given .0 .1 .0)) t n lower left bottom = subst (λ (r : RunCounts). Noted r t n lower left bottom) (k .before .below .given .1) (f .forward .ensures .1) in
-    let here = subst (λ (body : List ℕ). Noted (Counted 0 0) (tripleIn body) n lower left bottom) (body-is (bytes o)) noted in (
+    let noted : Noted (Counted (k .before .below .given .0 .0) (k .before .below .given .0 .1 .0)) t n numbers lower left bottom = subst (λ (r : RunCounts). Noted r t n numbers lower left bottom) (k .before .below .given .1) (f .forward .ensures .1) in
+    let here = subst (λ (body : List ℕ). Noted (Counted 0 0) (tripleIn body) n numbers lower left bottom) (body-is (bytes o)) noted in (
       ap Read (kind-is o) ∙ readable-checked Refused (bytes o) (Read (kindOf (bytes o))) (readable c),
-      (record { kind = kind-is o; some = omega (arith, o .if2 .left); few = o .before .wide .ensures .1; readable = readable c; lowers = here .0 }, here .1, here .2),
+      (record { kind = kind-is o; some = omega (arith, o .if2 .left); few = o .before .wide .ensures .1; readable = readable c; unpacked = here .0; lowers = here .1 }, here .2, here .3),
     )
 
 pub check-spec : {M : Type 1} → statement M

@@ -14,12 +14,12 @@ use Rattle.record.specs.Record.{bodyLength, tripleIn}
 use Rattle.record.specs.Decode.{labelOf, decode}
 use Rattle.record.specs.Read.{kindOf, bodyOf, ShortBody, BytesAfter, labelsOf}
 use Rattle.record.specs.Demand2Read.{readable-accepted}
-use Rattle.reading.specs.Passes.{Lowers, endAt}
+use Rattle.reading.specs.Passes.{Unpacked, Lowers, endAt}
 use Rattle.reading.specs.Answer.{Ready, triplesOf}
 use Rattle.reading.proofs.finish.Statement.{statement}
 use Rattle.reading.proofs.finish.Tie as tie
 
-some-byte : {bytes : List ℕ} {n : ℕ} {lower : List ℕ} → Ready bytes n lower → 1 ≤ length bytes
+some-byte : {bytes : List ℕ} {n : ℕ} {numbers lower : List ℕ} → Ready bytes n numbers lower → 1 ≤ length bytes
 some-byte {bytes} r = let z : ¬ (length bytes ≡ 0) = λ e. r .readable .kind (inl e) in omega arith
 
 -- the body is what is left of the record after its first byte
@@ -27,17 +27,17 @@ body-is : (bytes : List ℕ) → take (length bytes - 1) (drop 1 bytes) ≡ body
 body-is bytes = take-all (length bytes - 1) (drop 1 bytes) (omega (arith, length-drop 1 bytes))
 
 -- what `backward` asks of it
-body-asked : {bytes : List ℕ} {n : ℕ} {lower : List ℕ} → Ready bytes n lower
-    → let body = take (length bytes - 1) (drop 1 bytes) in ((1 ≤ n) × (n ≤ 255) × (length body ≡ bodyLength n) × Accepted (tripleIn body) n) × Lowers (tripleIn body) n lower
-body-asked {bytes} {n} {lower} r =
+body-asked : {bytes : List ℕ} {n : ℕ} {numbers lower : List ℕ} → Ready bytes n numbers lower
+    → let body = take (length bytes - 1) (drop 1 bytes) in ((1 ≤ n) × (n ≤ 255) × (length body ≡ bodyLength n) × Accepted (tripleIn body) n) × (Unpacked (tripleIn body) n numbers × Lowers (tripleIn body) n lower)
+body-asked {bytes} {n} {numbers} {lower} r =
     let long : ¬ ShortBody bytes = r .readable .long in
     let short : ¬ BytesAfter bytes = r .readable .short in
     let size : length (bodyOf bytes) ≡ bodyLength (kindOf bytes) = omega arith in
-    subst (λ (body : List ℕ). ((1 ≤ n) × (n ≤ 255) × (length body ≡ bodyLength n) × Accepted (tripleIn body) n) × Lowers (tripleIn body) n lower) (sym (body-is bytes))
-    ((r .some, r .few, size ∙ ap bodyLength (sym (r .kind)), subst (Accepted (tripleIn (bodyOf bytes))) (sym (r .kind)) (readable-accepted bytes (r .readable))), r .lowers)
+    subst (λ (body : List ℕ). ((1 ≤ n) × (n ≤ 255) × (length body ≡ bodyLength n) × Accepted (tripleIn body) n) × (Unpacked (tripleIn body) n numbers × Lowers (tripleIn body) n lower)) (sym (body-is bytes))
+    ((r .some, r .few, size ∙ ap bodyLength (sym (r .kind)), subst (Accepted (tripleIn (bodyOf bytes))) (sym (r .kind)) (readable-accepted bytes (r .readable))), (r .unpacked, r .lowers))
 
 -- what it leaves of the labels is the record's list, and of the ends those of its triples
-module _ {bytes : List ℕ} {n : ℕ} {lower : List ℕ} (r : Ready bytes n lower) (before : List ℕ) {after : List ℕ} where
+module _ {bytes : List ℕ} {n : ℕ} {numbers lower : List ℕ} (r : Ready bytes n numbers lower) (before : List ℕ) {after : List ℕ} where
   labels-left : after ≡ filled (λ i. labelOf (tripleIn (take (length bytes - 1) (drop 1 bytes))) n (suc i)) n before → after ≡ labelsOf bytes ++ drop n before
   unfolding labelsOf decode
   labels-left e = e ∙ (λ j. decode (tripleIn (body-is bytes j)) (r .kind j) ++ drop n before)

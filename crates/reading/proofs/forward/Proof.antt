@@ -8,10 +8,10 @@ use Rattle.record.specs.Walk.{missing, counts, step, walk}
 use Rattle.record.specs.Way.{up, down}
 use Rattle.record.specs.Record.{tripleIn}
 use Rattle.reading.specs.Turn.{Says, tripleOf}
-use Rattle.reading.specs.Passes.{endCounts}
-use Rattle.reading.proofs.Count.{Counted, counted-first, walk-next, meets, small, turned}
+use Rattle.reading.specs.Passes.{Unpacked, endCounts}
+use Rattle.reading.proofs.Count.{Counted, counted-first, size-few, walk-next, meets, small, turned}
 use Rattle.reading.proofs.Starts.{Placed, placed-first, placed-next}
-use Rattle.reading.proofs.Table.{group-triple, missing-on, rises-small, falls-small}
+use Rattle.reading.proofs.Table.{group-triple, unpacked-next, missing-on, rises-small, falls-small}
 use Rattle.reading.proofs.Told.{above-small, below-small}
 use Rattle.reading.proofs.forward.Statement.{statement}
 use Rattle.reading.proofs.forward.Tie as tie
@@ -19,49 +19,50 @@ use Rattle.reading.proofs.forward.Reads as reads
 use Rattle.reading.proofs.forward.Lts as lts
 use Rattle.bits.proofs.group.Reads as group-reads
 use Rattle.reading.proofs.chosen.Reads as chosen-reads
+use Rattle.reading.proofs.chosen_byte.Reads as chosen-byte-reads
 use Rattle.reading.proofs.step.Reads as step-reads
 use Rattle.reading.proofs.turn_of.Reads as turn-of-reads
 
 abbrev Inv-loop : tie.InvT-loop
-Inv-loop body n lower₀ left₀ bottom₀ below₀ above₀ newest-below₀ newest-above₀ runs-below₀ runs-above₀ size₀ k₀ lower left bottom below above newest-below newest-above runs-below runs-above size k =
-    Counted (tripleIn body) k lower below above runs-below runs-above size × Placed (tripleIn body) k down left newest-below runs-below × Placed (tripleIn body) k up bottom newest-above runs-above × (k < n)
+Inv-loop body n triples₀ lower₀ left₀ bottom₀ below₀ above₀ newest-below₀ newest-above₀ runs-below₀ runs-above₀ size₀ k₀ triples lower left bottom below above newest-below newest-above runs-below runs-above size k =
+    Counted (tripleIn body) k lower below above runs-below runs-above size × Placed (tripleIn body) k down left newest-below runs-below × Placed (tripleIn body) k up bottom newest-above runs-above × Unpacked (tripleIn body) (suc k) triples × (k < n)
 
 abbrev μ-loop : tie.MeasureT-loop
-μ-loop body n lower₀ left₀ bottom₀ below₀ above₀ newest-below₀ newest-above₀ runs-below₀ runs-above₀ size₀ k₀ lower left bottom below above newest-below newest-above runs-below runs-above size k =
+μ-loop body n triples₀ lower₀ left₀ bottom₀ below₀ above₀ newest-below₀ newest-above₀ runs-below₀ runs-above₀ size₀ k₀ triples lower left bottom below above newest-below newest-above runs-below runs-above size k =
     n - k
 
 -- the turn's triple
-abbrev at : lts.After-group (group-reads.Asked, group-reads.Learnt, step-reads.Asked, step-reads.Learnt, turn-of-reads.Asked, turn-of-reads.Learnt, chosen-reads.Asked, chosen-reads.Learnt) reads.Pre reads.Post Inv-loop μ-loop → Triple
+abbrev at : lts.After-group (group-reads.Asked, group-reads.Learnt, step-reads.Asked, step-reads.Learnt, turn-of-reads.Asked, turn-of-reads.Learnt, chosen-byte-reads.Asked, chosen-byte-reads.Learnt, chosen-reads.Asked, chosen-reads.Learnt) reads.Pre reads.Post Inv-loop μ-loop → Triple
 at g = let l = g .before .before in tripleIn (l .before .before .args .body .now) (suc (suc (l .loop .k)))
 
-read : (g : lts.After-group (group-reads.Asked, group-reads.Learnt, step-reads.Asked, step-reads.Learnt, turn-of-reads.Asked, turn-of-reads.Learnt, chosen-reads.Asked, chosen-reads.Learnt) reads.Pre reads.Post Inv-loop μ-loop) → tripleOf (g .group .result) ≡ at g
+read : (g : lts.After-group (group-reads.Asked, group-reads.Learnt, step-reads.Asked, step-reads.Learnt, turn-of-reads.Asked, turn-of-reads.Learnt, chosen-byte-reads.Asked, chosen-byte-reads.Learnt, chosen-reads.Asked, chosen-reads.Learnt) reads.Pre reads.Post Inv-loop μ-loop) → tripleOf (g .group .result) ≡ at g
 read g = let l = g .before .before in ap tripleOf (g .group .ensures .0) ∙ group-triple (l .before .before .args .body .now) (l .loop .k)
 
-more : (g : lts.After-group (group-reads.Asked, group-reads.Learnt, step-reads.Asked, step-reads.Learnt, turn-of-reads.Asked, turn-of-reads.Learnt, chosen-reads.Asked, chosen-reads.Learnt) reads.Pre reads.Post Inv-loop μ-loop) → g .before .before .loop .k < 254
+more : (g : lts.After-group (group-reads.Asked, group-reads.Learnt, step-reads.Asked, step-reads.Learnt, turn-of-reads.Asked, turn-of-reads.Learnt, chosen-byte-reads.Asked, chosen-byte-reads.Learnt, chosen-reads.Asked, chosen-reads.Learnt) reads.Pre reads.Post Inv-loop μ-loop) → g .before .before .loop .k < 254
 more g = omega (arith, g .before .loop-test .taken, g .before .before .before .before .pre .0 .1)
 
 -- how many runs there are at a turn
-few : (g : lts.After-group (group-reads.Asked, group-reads.Learnt, step-reads.Asked, step-reads.Learnt, turn-of-reads.Asked, turn-of-reads.Learnt, chosen-reads.Asked, chosen-reads.Learnt) reads.Pre reads.Post Inv-loop μ-loop) → g .before .before .loop .runs-below + g .before .before .loop .runs-above < 254
+few : (g : lts.After-group (group-reads.Asked, group-reads.Learnt, step-reads.Asked, step-reads.Learnt, turn-of-reads.Asked, turn-of-reads.Learnt, chosen-byte-reads.Asked, chosen-byte-reads.Learnt, chosen-reads.Asked, chosen-reads.Learnt) reads.Pre reads.Post Inv-loop μ-loop) → g .before .before .loop .runs-below + g .before .before .loop .runs-above < 254
 few g = omega (arith, more g, g .before .before .loop .inv .0 .few)
 
 -- what the table says of it
-stepped : (s : lts.After-step (group-reads.Asked, group-reads.Learnt, step-reads.Asked, step-reads.Learnt, turn-of-reads.Asked, turn-of-reads.Learnt, chosen-reads.Asked, chosen-reads.Learnt) reads.Pre reads.Post Inv-loop μ-loop) → let l = s .before .before .before in endCounts (s .step .result) ≡ step (at (s .before)) (l .loop .runs-below) (l .loop .runs-above)
+stepped : (s : lts.After-step (group-reads.Asked, group-reads.Learnt, step-reads.Asked, step-reads.Learnt, turn-of-reads.Asked, turn-of-reads.Learnt, chosen-byte-reads.Asked, chosen-byte-reads.Learnt, chosen-reads.Asked, chosen-reads.Learnt) reads.Pre reads.Post Inv-loop μ-loop) → let l = s .before .before .before in endCounts (s .step .result) ≡ step (at (s .before)) (l .loop .runs-below) (l .loop .runs-above)
 stepped s = let l = s .before .before .before in s .step .ensures ∙ ap (λ (u : Triple). step u (l .loop .runs-below) (l .loop .runs-above)) (read (s .before))
 
-goes : (e : lts.After-next-below (group-reads.Asked, group-reads.Learnt, step-reads.Asked, step-reads.Learnt, turn-of-reads.Asked, turn-of-reads.Learnt, chosen-reads.Asked, chosen-reads.Learnt) reads.Pre reads.Post Inv-loop μ-loop) → let s = e .before .before in let l = s .before .before .before in
+goes : (e : lts.After-next-below (group-reads.Asked, group-reads.Learnt, step-reads.Asked, step-reads.Learnt, turn-of-reads.Asked, turn-of-reads.Learnt, chosen-byte-reads.Asked, chosen-byte-reads.Learnt, chosen-reads.Asked, chosen-reads.Learnt) reads.Pre reads.Post Inv-loop μ-loop) → let s = e .before .before in let l = s .before .before .before in
     step (at (s .before)) (l .loop .runs-below) (l .loop .runs-above) ≡ counts (e .next-below .given .0 .0) (e .next-below .given .0 .1 .0)
 goes e = sym (stepped (e .before .before)) ∙ ap endCounts (e .next-below .given .1)
 
 -- what the turn has been told of it
-told : (e : lts.After-turn-of (group-reads.Asked, group-reads.Learnt, step-reads.Asked, step-reads.Learnt, turn-of-reads.Asked, turn-of-reads.Learnt, chosen-reads.Asked, chosen-reads.Learnt) reads.Pre reads.Post Inv-loop μ-loop) → Says (at (e .before .before .before .before .before)) (e .turn-of .result)
+told : (e : lts.After-turn-of (group-reads.Asked, group-reads.Learnt, step-reads.Asked, step-reads.Learnt, turn-of-reads.Asked, turn-of-reads.Learnt, chosen-byte-reads.Asked, chosen-byte-reads.Learnt, chosen-reads.Asked, chosen-reads.Learnt) reads.Pre reads.Post Inv-loop μ-loop) → Says (at (e .before .before .before .before .before)) (e .turn-of .result)
 told e = subst (λ (u : Triple). Says u (e .turn-of .result)) (read (e .before .before .before .before .before)) (e .turn-of .ensures)
 
 -- the sizes fit in bytes
-fit : (e : lts.After-chosen4 (group-reads.Asked, group-reads.Learnt, step-reads.Asked, step-reads.Learnt, turn-of-reads.Asked, turn-of-reads.Learnt, chosen-reads.Asked, chosen-reads.Learnt) reads.Pre reads.Post Inv-loop μ-loop) → 1 + e .before .chosen3 .result + e .chosen4 .result ≤ 255
+fit : (e : lts.After-chosen2 (group-reads.Asked, group-reads.Learnt, step-reads.Asked, step-reads.Learnt, turn-of-reads.Asked, turn-of-reads.Learnt, chosen-byte-reads.Asked, chosen-byte-reads.Learnt, chosen-reads.Asked, chosen-reads.Learnt) reads.Pre reads.Post Inv-loop μ-loop) → 1 + e .before .chosen .result + e .chosen2 .result ≤ 255
 fit e =
     let o = e .before .before .before .before in
     let g = o .before .before .before .before .before in
-    small (g .before .before .loop .inv .0) (more g) (goes (o .before .before)) (o .turn-of .result) (told o) (e .before .before .before .chosen .ensures) (e .before .before .chosen2 .ensures) (e .before .chosen3 .ensures) (e .chosen4 .ensures)
+    small (g .before .before .loop .inv .0) (more g) (goes (o .before .before)) (o .turn-of .result) (told o) (e .before .before .before .chosen-byte .ensures) (e .before .before .chosen-byte2 .ensures) (e .before .chosen .ensures) (e .chosen2 .ensures)
 
 element-write-lower : tie.Need-element-write-lower Inv-loop μ-loop
 element-write-lower c = omega arith
@@ -73,13 +74,16 @@ element-write-bottom : tie.Need-element-write-bottom Inv-loop μ-loop
 element-write-bottom c = omega arith
 
 loop-holds : tie.Need-loop-holds Inv-loop μ-loop
-loop-holds c = let s = c .before in (counted-first (tripleIn (s .args .body .now)) (s .args .lower .now) _ _ (s .pre .1 .0) refl refl, placed-first (tripleIn (s .args .body .now)) down (s .args .left .now) _ (s .pre .1 .1) refl refl, placed-first (tripleIn (s .args .body .now)) up (s .args .bottom .now) _ (s .pre .1 .2) refl refl, s .pre .0 .0)
+loop-holds c = let s = c .before in (counted-first (tripleIn (s .args .body .now)) (s .args .lower .now) _ _ (s .pre .1 .1) refl refl, placed-first (tripleIn (s .args .body .now)) down (s .args .left .now) _ (s .pre .1 .2) refl refl, placed-first (tripleIn (s .args .body .now)) up (s .args .bottom .now) _ (s .pre .1 .3) refl refl, record { size = s .pre .1 .0; at = λ i h. absurd (omega arith) }, s .pre .0 .0)
 
 add-loop : tie.Need-add-loop Inv-loop μ-loop
 add-loop c = search needs
 
 group-requires : tie.Need-group-requires Inv-loop μ-loop
 group-requires c κs = let s = c .before .before .before in (omega (arith, c .loop-test .taken, s .pre .0 .2), omega (arith, s .pre .0 .1, s .pre .0 .2))
+
+element-write-triples : tie.Need-element-write-triples Inv-loop μ-loop
+element-write-triples c = omega (arith, more c)
 
 step-requires : tie.Need-step-requires Inv-loop μ-loop
 step-requires c κs = (c .group .ensures .1, omega (arith, few c), omega (arith, few c))
@@ -105,26 +109,32 @@ returns c =
 turn-of-requires : tie.Need-turn-of-requires Inv-loop μ-loop
 turn-of-requires c κs = c .before .before .before .before .group .ensures .1
 
-array-read-chosen : tie.Need-array-read-chosen Inv-loop μ-loop
-array-read-chosen c = omega (arith, few (c .before .before .before .before .before))
+array-read-chosen-byte : tie.Need-array-read-chosen-byte Inv-loop μ-loop
+array-read-chosen-byte c = omega (arith, few (c .before .before .before .before .before))
+
+chosen-byte-requires : tie.Need-chosen-byte-requires Inv-loop μ-loop
+chosen-byte-requires c κs = rises-small (told c)
+
+array-read-chosen-byte-2 : tie.Need-array-read-chosen-byte-2 Inv-loop μ-loop
+array-read-chosen-byte-2 c = omega (arith, few (c .before .before .before .before .before .before))
+
+chosen-byte-requires-2 : tie.Need-chosen-byte-requires-2 Inv-loop μ-loop
+chosen-byte-requires-2 c κs = falls-small (told (c .before))
 
 chosen-requires : tie.Need-chosen-requires Inv-loop μ-loop
-chosen-requires c κs = rises-small (told c)
+chosen-requires c κs = below-small (told (c .before .before))
 
-array-read-chosen-2 : tie.Need-array-read-chosen-2 Inv-loop μ-loop
-array-read-chosen-2 c = omega (arith, few (c .before .before .before .before .before .before))
-
-chosen-requires-2 : tie.Need-chosen-requires-2 Inv-loop μ-loop
-chosen-requires-2 c κs = falls-small (told (c .before))
-
-chosen-requires-3 : tie.Need-chosen-requires-3 Inv-loop μ-loop
-chosen-requires-3 c κs = below-small (told (c .before .before))
+cast-below : tie.Need-cast-below Inv-loop μ-loop
+cast-below c = let g = c .before .before .before .before .before .before .before .before in omega (arith, size-few (g .before .before .loop .inv .0) (more g))
 
 add-below : tie.Need-add-below Inv-loop μ-loop
 add-below c = search needs
 
 array-write-below : tie.Need-array-write-below Inv-loop μ-loop
 array-write-below c = omega (arith, few (c .before .before .before .before .before .before .before .before))
+
+cast-above : tie.Need-cast-above Inv-loop μ-loop
+cast-above c = let g = c .before .before .before .before .before .before .before .before in omega (arith, size-few (g .before .before .loop .inv .0) (more g))
 
 add-above : tie.Need-add-above Inv-loop μ-loop
 add-above c = search needs
@@ -136,10 +146,10 @@ add-size : tie.Need-add-size Inv-loop μ-loop
 add-size c =
     let o = c .before .before .before in
     let g = o .before .before .before .before .before in
-    omega (arith, small (g .before .before .loop .inv .0) (more g) (goes (o .before .before)) (o .turn-of .result) (told o) (c .before .before .chosen .ensures) (c .before .chosen2 .ensures) (c .chosen3 .ensures) refl)
+    omega (arith, small (g .before .before .loop .inv .0) (more g) (goes (o .before .before)) (o .turn-of .result) (told o) (c .before .before .chosen-byte .ensures) (c .before .chosen-byte2 .ensures) (c .chosen .ensures) refl)
 
-chosen-requires-4 : tie.Need-chosen-requires-4 Inv-loop μ-loop
-chosen-requires-4 c κs = above-small (told (c .before .before .before))
+chosen-requires-2 : tie.Need-chosen-requires-2 Inv-loop μ-loop
+chosen-requires-2 c κs = above-small (told (c .before .before .before))
 
 add-size-2 : tie.Need-add-size-2 Inv-loop μ-loop
 add-size-2 c = omega (arith, fit c)
@@ -165,11 +175,11 @@ add-newest-above c = omega (arith, few (c .before .before .before .before .befor
 array-write-newest-above : tie.Need-array-write-newest-above Inv-loop μ-loop
 array-write-newest-above c = omega (arith, few (c .before .before .before .before .before .before .before .before .before))
 
+cast-lower : tie.Need-cast-lower Inv-loop μ-loop
+cast-lower c = omega (arith, fit c)
+
 element-write-lower-2 : tie.Need-element-write-lower-2 Inv-loop μ-loop
 element-write-lower-2 c = omega (arith, more (c .before .before .before .before .before .before .before .before .before))
-
-cast-left : tie.Need-cast-left Inv-loop μ-loop
-cast-left c = omega (arith, rises-small (told (c .before .before .before .before .before)))
 
 add-left : tie.Need-add-left Inv-loop μ-loop
 add-left c = omega (arith, few (c .before .before .before .before .before .before .before .before .before .before), rises-small (told (c .before .before .before .before .before)))
@@ -179,9 +189,6 @@ array-read-left c = omega (arith, few (c .before .before .before .before .before
 
 element-write-left-2 : tie.Need-element-write-left-2 Inv-loop μ-loop
 element-write-left-2 c = omega (arith, more (c .before .before .before .before .before .before .before .before .before .before))
-
-cast-bottom : tie.Need-cast-bottom Inv-loop μ-loop
-cast-bottom c = omega (arith, falls-small (told (c .before .before .before .before .before .before)))
 
 add-bottom : tie.Need-add-bottom Inv-loop μ-loop
 add-bottom c = omega (arith, few (c .before .before .before .before .before .before .before .before .before .before .before), falls-small (told (c .before .before .before .before .before .before)))
@@ -203,9 +210,10 @@ loop-again c =
     let now = g .before .before .loop .inv in
     let next = meets (now .0) (more g) (goes (o .before .before)) in
     let says = told o in (
-      turned (now .0) (more g) (goes (o .before .before)) (o .turn-of .result) says (e .before .before .before .chosen .ensures) (e .before .before .chosen2 .ensures) (e .before .chosen3 .ensures) (e .chosen4 .ensures),
+      turned (now .0) (more g) (goes (o .before .before)) (o .turn-of .result) says (e .before .before .before .chosen-byte .ensures) (e .before .before .chosen-byte2 .ensures) (e .before .chosen .ensures) (e .chosen2 .ensures),
       placed-next (now .1) (more g) (omega (arith, few g)) _ _ (says .rises-is) (next .0),
       placed-next (now .2) (more g) (omega (arith, few g)) _ _ (says .falls-is) (next .1),
+      unpacked-next (g .group .result) (now .3) (more g) (g .group .ensures .1) (read g),
       g .before .loop-test .taken,
     )
 
@@ -213,9 +221,10 @@ returns-2 : tie.Need-returns-2 Inv-loop μ-loop
 returns-2 c =
     let l = c .before in
     let n = l .before .before .args .n in
-    let e : n - 1 ≡ l .loop .k = omega (arith, l .loop .inv .3, c .loop-test .left) in (
+    let e : n - 1 ≡ l .loop .k = omega (arith, l .loop .inv .4, c .loop-test .left) in (
       sym (ap (walk (tripleIn (l .before .before .args .body .now))) e ∙ l .loop .inv .0 .walked),
       (
+        record { size = l .loop .inv .3 .size; at = λ i h. l .loop .inv .3 .at i (omega (arith, c .loop-test .left)) },
         λ i h. l .loop .inv .0 .lowers i (omega (arith, c .loop-test .left)),
         record { size = l .loop .inv .1 .room-starts; at = λ i h. l .loop .inv .1 .starts-are i (omega (arith, c .loop-test .left)) },
         record { size = l .loop .inv .2 .room-starts; at = λ i h. l .loop .inv .2 .starts-are i (omega (arith, c .loop-test .left)) },
@@ -234,22 +243,25 @@ forward-spec =
     loop-holds
     add-loop
     group-requires
+    element-write-triples
     step-requires
     enum-known-next-below
     enum-told
     returns
     turn-of-requires
-    array-read-chosen
+    array-read-chosen-byte
+    chosen-byte-requires
+    array-read-chosen-byte-2
+    chosen-byte-requires-2
     chosen-requires
-    array-read-chosen-2
-    chosen-requires-2
-    chosen-requires-3
+    cast-below
     add-below
     array-write-below
+    cast-above
     add-above
     array-write-above
     add-size
-    chosen-requires-4
+    chosen-requires-2
     add-size-2
     add-next
     cast-newest-below
@@ -258,12 +270,11 @@ forward-spec =
     cast-newest-above
     add-newest-above
     array-write-newest-above
+    cast-lower
     element-write-lower-2
-    cast-left
     add-left
     array-read-left
     element-write-left-2
-    cast-bottom
     add-bottom
     array-read-bottom
     element-write-bottom-2

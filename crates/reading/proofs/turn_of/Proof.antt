@@ -1,5 +1,5 @@
 -- `reading::turn_of` meets its contract: for each of the eight numbers the shifts and masks are computed.
-use mathlib.Core.Path.{refl}
+use mathlib.Core.Path.{refl, subst}
 use Prim.Native.Nat.{ℕ, zero, suc, _-_, _/_, _^_, _<_}
 use native.Mathlib.Omega.{arith}
 use lib.Bits.{bitAnd, mask-lt}
@@ -22,11 +22,14 @@ said (suc (suc (suc (suc (suc (suc zero)))))) h = record { above-is = refl; belo
 said (suc (suc (suc (suc (suc (suc (suc zero))))))) h = record { above-is = refl; below-is = refl; rises-is = refl; falls-is = refl }
 said (suc (suc (suc (suc (suc (suc (suc (suc x)))))))) h = absurd (omega arith)
 
-sub-t6 : tie.Need-sub-t6
-sub-t6 c = omega (arith, mask-lt (c .args .triple) 1)
+wide-requires : tie.Need-wide-requires
+wide-requires c κs = tt
+
+sub-t7 : tie.Need-sub-t7
+sub-t7 c = omega (arith, mask-lt (c .wide .result) 1)
 
 returns : tie.Need-returns
-returns c = said (c .args .triple) (c .pre)
+returns c = subst (λ (x : ℕ). Says (tripleOf x) (apart (c .wide .result))) (c .wide .ensures .0) (said (c .wide .result) (omega (arith, c .wide .ensures .0, c .before .pre)))
 
 pub turn-of-spec : {M : Type 1} → statement M
-turn-of-spec = tie.close (tie.spec sub-t6 returns)
+turn-of-spec = tie.close (tie.spec wide-requires sub-t7 returns)
