@@ -34,7 +34,7 @@ module _ (p : Plan) (t : Tiles p) (c d x y : ℕ) (hc : c < p .count) (hd : d < 
   pub edge→sides-meet : UprightEdge p x y → (right c ≡ x) × (left d ≡ x)
   edge→sides-meet edge = two-rooms→sides-meet (edge→two-rooms edge)
 
-  no-edge→one-room : ¬ UprightEdge p x y → c ≡ d
+  pub no-edge→one-room : ¬ UprightEdge p x y → c ≡ d
   no-edge→one-room none = elim (eq-or-ne c d) [
     | inl e ↦ e
     | inr ne ↦ absurd (none (c, zero-le, hc, record { side = inr (two-rooms→sides-meet ne .0); bottom = i .bottom; top = i .top }))

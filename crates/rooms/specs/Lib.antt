@@ -4,6 +4,7 @@ pub mod Causes
 pub mod Segment
 pub mod Orders
 pub mod LabelList
+pub mod Corners
 pub mod Equivalent
 -- Each is decided
 pub mod Pick

@@ -11,7 +11,7 @@ use Rattle.rooms.specs.EdgesAtPoint.{two-rooms→sides-meet, edge→side
 use Rattle.rooms.specs.SharedRow.{adjacent→left-step, row→left}
 use Rattle.rooms.specs.LeftThrough.{left-through}
 
-other-way : {A B : Type 0} → A ⊎ B → B ⊎ A
+pub other-way : {A B : Type 0} → A ⊎ B → B ⊎ A
 other-way (inl a) = inr a
 other-way (inr b) = inl b
 

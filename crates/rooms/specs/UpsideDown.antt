@@ -9,14 +9,14 @@ use Rattle.rooms.specs.UpperRight.{upper-right→left-or-below}
 use Rattle.rooms.specs.Staircase.{not-left-and-below}
 
 -- q is p upside down, at the height h: a relation, and a symmetric one, so that what carries over from p to q carries over back
-record Flipped (p q : Plan) (h : ℕ) : Type 0 where
+pub record Flipped (p q : Plan) (h : ℕ) : Type 0 where
   count : p .count ≡ q .count
   left : (i : ℕ) → i < p .count → p .left i ≡ q .left i
   right : (i : ℕ) → i < p .count → p .right i ≡ q .right i
   bottom-top : (i : ℕ) → i < p .count → p .bottom i + q .top i ≡ h
   top-bottom : (i : ℕ) → i < p .count → p .top i + q .bottom i ≡ h
 
-flipped-sym : {p q : Plan} {h : ℕ} → Flipped p q h → Flipped q p h
+pub flipped-sym : {p q : Plan} {h : ℕ} → Flipped p q h → Flipped q p h
 flipped-sym f = record {
   count = sym (f .count);
   left = λ i l. sym (f .left i (omega (arith, f .count)));
@@ -48,7 +48,7 @@ module _ {p q : Plan} {h : ℕ} (f : Flipped p q h) where
         line = λ z lo hi. subst (λ (x : ℕ). UprightEdge q x z) (f .left b (d .b<)) (flip-upright (p .left b) (h - suc z) z (omega arith) (d .line (h - suc z) (omega arith) (omega arith)));
       }
 
-  flip-left : {a b : ℕ} → Left p a b → Left q a b
+  pub flip-left : {a b : ℕ} → Left p a b → Left q a b
   flip-left r = chain-map (λ x. x) flip-left-step r
 
   flip-flat : (x y z : ℕ) → y + z ≡ h → FlatEdge p x y → FlatEdge q x z
@@ -71,20 +71,20 @@ module _ {p q : Plan} {h : ℕ} (f : Flipped p q h) where
         line = λ x lo hi. flip-flat x (p .bottom b) (q .bottom a) (omega (arith, f .bottom-top b (d .b<))) (d .line x (omega arith) (omega arith));
       }
 
-  flip-below : {a b : ℕ} → Below p a b → Below q b a
+  pub flip-below : {a b : ℕ} → Below p a b → Below q b a
   flip-below r = chain-turn flip-below-step r
 
 -- the plan upside down
-abbrev flip : Plan → Plan
+abbrev pub flip : Plan → Plan
 flip p = record { count = p .count; left = p .left; right = p .right; bottom = λ i. p .north - p .top i; top = λ i. p .north - p .bottom i; west = p .west; east = p .east; south = 0; north = p .north - p .south }
 
 module _ (p : Plan) (k : Floorplan p) where
   open Plan p using (count, left, bottom, right, top, north)
 
-  flipped : Flipped p (flip p) north
+  pub flipped : Flipped p (flip p) north
   flipped = record { count = refl; left = λ i l. refl; right = λ i l. refl; bottom-top = λ i l. omega (arith, k .fits i l); top-bottom = λ i l. omega (arith, k .fits i l) }
 
-  flip-floorplan : Floorplan (flip p)
+  pub flip-floorplan : Floorplan (flip p)
   flip-floorplan = record {
     fits = λ i l. omega (arith, k .fits i l);
     apart = λ i j x y hi hj u v. k .apart i j x (north - suc y) hi hj (omega (arith, k .fits i hi, u)) (omega (arith, k .fits j hj, v));

@@ -1,0 +1,143 @@
+-- What is found in the lists of corners is found in the room list, and back: room i of the list is the room with the corners at place i.
+use mathlib.Core.Path.{_≡_, sym, ap, subst, _∙_}
+use mathlib.Core.Logic.{_⊎_, inl, inr}
+use mathlib.Core.Bool.{not}
+use mathlib.Core.List.{List}
+use Prim.Native.Nat.{ℕ, _≤_, _<_}
+use native.Mathlib.Omega.{arith}
+use lib.Dec.{eqb}
+use lib.ListN.{length, getD}
+use Rattle.finite.specs.Decide.{Tells, le-or-lt}
+use Rattle.finite.specs.Search.{Some}
+use Rattle.finite.specs.Sum.{sum, sum-same}
+use Rattle.drawing.specs.declared.Room.{Room}
+use Rattle.rooms.specs.Outline.{roomIn, SomeRoom, least, greatest, outline}
+use Rattle.rooms.specs.OutlineLaws.{least-le, greatest-ge, least-largest, greatest-smallest, rooms-within-outline}
+use Rattle.rooms.specs.Causes.{RoomSize, Overlap, Uncovered, FourMeet}
+use Rattle.rooms.specs.Corners.{cornersAt, length-rooms, room-of, OneLength}
+use Rattle.checks.specs.CornerLists.{roomsIn, SharesEarlier, StartsAt}
+use Rattle.checks.specs.Area.{areaOf}
+use Rattle.checks.specs.Areas.{areasOf, uncovered→areas-less, areas-differ→uncovered}
+use Rattle.checks.specs.Diagonal.{Diagonal, wide-and-tall, diagonal→four-meet, no-diagonal→no-four-meet}
+use Rattle.checks.proofs.Tell.{differ-tells}
+
+-- the room has no width or no height
+abbrev pub Flat : Room → Type 0
+Flat room = (room .right ≤ room .left) ⊎ (room .top ≤ room .bottom)
+
+module _ (lefts bottoms rights tops : List ℕ) where
+  abbrev n : ℕ
+  n = length lefts
+
+  abbrev rooms : List Room
+  rooms = roomsIn lefts bottoms rights tops
+
+  abbrev pub corners : ℕ → Room
+  corners = cornersAt lefts bottoms rights tops
+
+  pub count : length rooms ≡ n
+  count = length-rooms lefts bottoms rights tops n
+
+  at : (i : ℕ) → i < n → roomIn rooms i ≡ corners i
+  at i h = room-of lefts bottoms rights tops n i h
+
+  -- some room, with the property at its place
+  place→room : (P : ℕ → Room → Type 0) → Some (λ i. P i (corners i)) 0 n → SomeRoom rooms (λ i. P i (roomIn rooms i))
+  place→room P (i, l, h, p) = (i, l, omega (arith, count), subst (P i) (sym (at i h)) p)
+
+  room→place : (P : ℕ → Room → Type 0) → SomeRoom rooms (λ i. P i (roomIn rooms i)) → Some (λ i. P i (corners i)) 0 n
+  room→place P (i, l, h, p) = let g : i < n = omega (arith, count) in (i, l, g, subst (P i) (at i g) p)
+
+  -- ---- cause 2
+  pub flat→room-size : Some (λ i. Flat (corners i)) 0 n → RoomSize rooms
+  flat→room-size = place→room (λ i room. Flat room)
+
+  pub room-size→flat : RoomSize rooms → Some (λ i. Flat (corners i)) 0 n
+  room-size→flat = room→place (λ i room. Flat room)
+
+  pub corners-wide-and-tall : ¬ RoomSize rooms → (i : ℕ) → i < n → (getD lefts i 0 < getD rights i 0) × (getD bottoms i 0 < getD tops i 0)
+  corners-wide-and-tall size i h = subst (λ (room : Room). (room .left < room .right) × (room .bottom < room .top)) (at i h) (wide-and-tall rooms size i (omega (arith, count)))
+
+  -- ---- cause 3: of two rooms one is the earlier
+  pub shares-earlier→overlap : Some (SharesEarlier lefts bottoms rights tops) 0 n → Overlap rooms
+  shares-earlier→overlap (j, lj, hj, (i, li, hi, s)) =
+      let g : i < n = omega arith in
+      (i, li, omega (arith, count), (j, lj, omega (arith, count), (λ e. omega arith, rw (at i g, at j hj) s)))
+
+  pub overlap→shares-earlier : Overlap rooms → Some (SharesEarlier lefts bottoms rights tops) 0 n
+  overlap→shares-earlier (i, li, hi, (j, lj, hj, (ne, s))) =
+      let gi : i < n = omega (arith, count) in
+      let gj : j < n = omega (arith, count) in
+      let (x, y, u, v) = rw (at i gi, at j gj) at s in
+      elim (le-or-lt i j) [ inl l ↦ (j, lj, gj, (i, li, omega arith, (x, y, u, v))) | inr l ↦ (i, li, gi, (j, lj, l, (x, y, v, u))) ]
+
+  -- ---- cause 4
+  places-areas : sum (λ i. areaOf (corners i)) 0 n ≡ areasOf rooms
+  places-areas =
+      sum-same (λ i. areaOf (corners i)) (λ i. areaOf (roomIn rooms i)) 0 n (λ i l h. ap areaOf (sym (at i h)))
+      ∙ ap (sum (λ i. areaOf (roomIn rooms i)) 0) (sym count)
+
+  least-same : (f g : ℕ → ℕ) → 0 < n → ((i : ℕ) → i < n → f i ≡ g i) → least f n ≡ least g (length rooms)
+  least-same f g some same = rw count (omega (
+    arith,
+    least-largest g n (least f n) some (λ i h. omega (arith, same i h, least-le f n i h)),
+    least-largest f n (least g n) some (λ i h. omega (arith, same i h, least-le g n i h)),
+  ))
+
+  greatest-same : (f g : ℕ → ℕ) → ((i : ℕ) → i < n → f i ≡ g i) → greatest f n ≡ greatest g (length rooms)
+  greatest-same f g same = rw count (omega (
+    arith,
+    greatest-smallest f n (greatest g n) (λ i h. omega (arith, same i h, greatest-ge g n i h)),
+    greatest-smallest g n (greatest f n) (λ i h. omega (arith, same i h, greatest-ge f n i h)),
+  ))
+
+  -- the box of the lists' least and greatest corners
+  pub record BoxOf (box : Room) : Type 0 where
+    pub left : box .left ≡ least (λ i. getD lefts i 0) n
+    pub bottom : box .bottom ≡ least (λ i. getD bottoms i 0) (length bottoms)
+    pub right : box .right ≡ greatest (λ i. getD rights i 0) (length rights)
+    pub top : box .top ≡ greatest (λ i. getD tops i 0) (length tops)
+
+  -- is the outline
+  box-is-outline : OneLength lefts bottoms rights tops → 0 < n → (box : Room) → BoxOf box → box ≡ outline rooms
+  box-is-outline lengths some box is = λ j. record {
+    left = (is .left ∙ least-same (λ i. getD lefts i 0) (λ i. roomIn rooms i .left) some (λ i h. ap (λ (room : Room). room .left) (sym (at i h)))) j;
+    bottom = (is .bottom ∙ ap (least _) (lengths .bottoms-length) ∙ least-same (λ i. getD bottoms i 0) (λ i. roomIn rooms i .bottom) some (λ i h. ap (λ (room : Room). room .bottom) (sym (at i h)))) j;
+    right = (is .right ∙ ap (greatest _) (lengths .rights-length) ∙ greatest-same (λ i. getD rights i 0) (λ i. roomIn rooms i .right) (λ i h. ap (λ (room : Room). room .right) (sym (at i h)))) j;
+    top = (is .top ∙ ap (greatest _) (lengths .tops-length) ∙ greatest-same (λ i. getD tops i 0) (λ i. roomIn rooms i .top) (λ i h. ap (λ (room : Room). room .top) (sym (at i h)))) j;
+  }
+
+  pub box-sides : OneLength lefts bottoms rights tops → 0 < n → ¬ RoomSize rooms → (box : Room) → BoxOf box → (box .left ≤ box .right) × (box .bottom ≤ box .top)
+  box-sides lengths some size box is =
+      let h : 0 < length rooms = omega (arith, count) in
+      rw (box-is-outline lengths some box is) (omega (arith, wide-and-tall rooms size 0 h, rooms-within-outline rooms 0 h))
+
+  pub areas-tell : OneLength lefts bottoms rights tops → 0 < n → ¬ Overlap rooms → (box : Room) → BoxOf box → (total whole : ℕ) → total ≡ sum (λ i. areaOf (corners i)) 0 n → whole ≡ areaOf box
+      → Tells (not (eqb total whole)) (Uncovered rooms)
+  areas-tell lengths some apart box is total whole t w = differ-tells (Uncovered rooms) total whole
+      (λ differ. areas-differ→uncovered rooms apart (λ e. differ (all ∙ e ∙ sym outer)))
+      (λ left-over e. omega (arith, all, outer, uncovered→areas-less rooms apart left-over))
+    where
+      all : total ≡ areasOf rooms
+      all = t ∙ places-areas
+
+      outer : whole ≡ areaOf (outline rooms)
+      outer = w ∙ ap areaOf (box-is-outline lengths some box is)
+
+  -- ---- cause 5
+  abbrev pub StartsAcross : ℕ → Type 0
+  StartsAcross i = StartsAt lefts bottoms (getD rights i 0) (getD tops i 0)
+
+  module _ (size : ¬ RoomSize rooms) (overlap : ¬ Overlap rooms) (uncovered : ¬ Uncovered rooms) where
+    pub starts-across→four-meet : Some StartsAcross 0 n → FourMeet rooms
+    starts-across→four-meet (i, li, hi, (j, lj, hj, across)) = diagonal→four-meet rooms size overlap uncovered
+        (i, li, omega (arith, count), (j, lj, omega (arith, count), rw (at i hi, at j hj) across))
+
+    pub none-across→no-four-meet : ¬ Some StartsAcross 0 n → ¬ FourMeet rooms
+    none-across→no-four-meet none = no-diagonal→no-four-meet rooms size overlap uncovered back
+      where
+        back : ¬ Diagonal rooms
+        back (i, li, hi, (j, lj, hj, across)) =
+            let gi : i < n = omega (arith, count) in
+            let gj : j < n = omega (arith, count) in
+            none (i, li, gi, (j, lj, gj, rw (at i gi, at j gj) at across))

@@ -1,0 +1,38 @@
+-- What a Bool tells: a comparison tells of any statement that holds where the comparison does.
+use mathlib.Core.Path.{_≡_, refl}
+use mathlib.Core.Bool.{Bool, true, false, not}
+use mathlib.Core.Logic.{_≢_}
+use Prim.Native.Nat.{ℕ, _<_}
+use native.Mathlib.Omega.{arith}
+use borrow.Author.Tests.{ltb-true, ltb-false, eqb-true, eqb-false}
+use lib.Dec.{ltb, eqb}
+use Rattle.finite.specs.Decide.{Tells}
+
+module _ (A : Type 0) (a b : ℕ) where
+  pub less-tells : (a < b → A) → (A → a < b) → Tells (ltb a b) A
+  less-tells there back = go (ltb a b) refl
+    where
+      go : (t : Bool) → ltb a b ≡ t → Tells t A
+      go true e = there (ltb-true a b e)
+      go false e = λ h. omega (arith, ltb-false a b e, back h)
+
+  pub equal-tells : (a ≡ b → A) → (A → a ≡ b) → Tells (eqb a b) A
+  equal-tells there back = go (eqb a b) refl
+    where
+      go : (t : Bool) → eqb a b ≡ t → Tells t A
+      go true e = there (eqb-true a b e)
+      go false e = λ h. eqb-false a b e (back h)
+
+  pub differ-tells : (a ≢ b → A) → (A → a ≢ b) → Tells (not (eqb a b)) A
+  differ-tells there back = go (eqb a b) refl
+    where
+      go : (t : Bool) → eqb a b ≡ t → Tells (not t) A
+      go true e = λ h. back h (eqb-true a b e)
+      go false e = there (eqb-false a b e)
+
+-- a Bool that is known
+pub told-true : (A : Type 0) (t : Bool) → t ≡ true → Tells t A → A
+told-true A t e h = rw e at h
+
+pub told-false : (A : Type 0) (t : Bool) → t ≡ false → Tells t A → ¬ A
+told-false A t e h = rw e at h

@@ -1,0 +1,61 @@
+-- `uncovered` meets its contract. The least and the greatest corners are the outline's, and the sum of the areas is the sum over the rooms; where rooms share no unit
+-- square, it differs from the outline's area just where a square is left over.
+use Rattle.drawing.specs.declared.Room.{Room}
+use Rattle.checks.proofs.Places.{BoxOf, box-sides, areas-tell}
+use borrow.Author.Needs.{needs}
+use Rattle.checks.proofs.uncovered.Statement.{statement}
+use Rattle.checks.proofs.uncovered.Tie as tie
+use Rattle.checks.proofs.uncovered.Reads as reads
+use Rattle.checks.proofs.uncovered.Lts as lts
+use Rattle.checks.proofs.low.Reads as low-reads
+use Rattle.checks.proofs.high.Reads as high-reads
+use Rattle.checks.proofs.areas.Reads as areas-reads
+use Rattle.checks.proofs.area.Reads as area-reads
+
+-- the place where all four corners are known, and the box that they bound
+abbrev Bounded : Type 0
+Bounded = lts.After-high2 (low-reads.Asked, low-reads.Learnt, high-reads.Asked, high-reads.Learnt, areas-reads.Asked, areas-reads.Learnt, area-reads.Asked, area-reads.Learnt) reads.Pre reads.Post
+
+abbrev boxAt : Bounded → Room
+boxAt k = record { left = k .before .before .before .low .result; bottom = k .before .before .low2 .result; right = k .before .high .result; top = k .high2 .result }
+
+box-of : (k : Bounded) → let a = k .before .before .before .before .before .before .before .before .args in BoxOf (a .left .now) (a .bottom .now) (a .right .now) (a .top .now) (boxAt k)
+box-of k = record { left = k .before .before .before .low .ensures; bottom = k .before .before .low2 .ensures; right = k .before .high .ensures; top = k .high2 .ensures }
+
+low-requires : tie.Need-low-requires
+low-requires c κs = search needs
+
+low-requires-2 : tie.Need-low-requires-2
+low-requires-2 c κs = search needs
+
+high-requires : tie.Need-high-requires
+high-requires c κs = search needs
+
+high-requires-2 : tie.Need-high-requires-2
+high-requires-2 c κs = search needs
+
+areas-requires : tie.Need-areas-requires
+areas-requires c κs = search needs
+
+area-requires : tie.Need-area-requires
+area-requires c κs =
+    let pre = c .before .before .before .before .before .before .before .before .before .pre in
+    box-sides _ _ _ _ (pre .0) (pre .1 .0 .0) (pre .1 .1 .0) (boxAt (c .before)) (box-of (c .before))
+
+returns : tie.Need-returns
+returns c =
+    let k = c .before .before in
+    let pre = k .before .before .before .before .before .before .before .before .pre in
+    areas-tell _ _ _ _ (pre .0) (pre .1 .0 .0) (pre .1 .1 .1) (boxAt k) (box-of k) (c .before .areas .result) (c .area .result) (c .before .areas .ensures) (c .area .ensures .0)
+
+pub uncovered-spec : {M : Type 1} → statement M
+uncovered-spec =
+    tie.close
+    (tie.spec
+    low-requires
+    low-requires-2
+    high-requires
+    high-requires-2
+    areas-requires
+    area-requires
+    returns)

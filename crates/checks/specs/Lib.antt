@@ -1,0 +1,9 @@
+-- What the functions speak of
+pub mod CornerLists
+pub mod Marks
+pub mod Area
+pub mod Verdict
+-- What they rest on
+pub mod Sums
+pub mod Areas
+pub mod Diagonal

@@ -1,0 +1,170 @@
+// Label and position of each room of an accepted list, from the corners of its rooms, and its label list. Both orders are walked from the first room by a rule
+// for the next one, which compares corners only.
+ghost use mathlib.Core.Path.{_≡_};
+ghost use mathlib.Core.List.{List};
+ghost use Prim.Native.Nat.{ℕ, _≤_, _<_};
+ghost use lib.ListN.{length, getD, take};
+ghost use Rattle.drawing.specs.declared.Room.{Room};
+ghost use Rattle.rooms.specs.Outline.{least, greatest};
+ghost use Rattle.rooms.specs.Causes.{AcceptedRooms};
+ghost use Rattle.rooms.specs.LabelList.{labelList};
+ghost use Rattle.rooms.specs.Corners.{roomsOf, OneLength};
+ghost use Rattle.orders.specs.Found.{numberAt, OneWay, Sized, Search, Walked, Next};
+ghost use Rattle.orders.specs.Ranked.{Ranked};
+ghost use Rattle.orders.specs.LabelsAndPositions.{PositionsAt, LabelsAt, LabelsAndPositions};
+
+// ---- the outline's corners
+
+// The least of the numbers: the left or the bottom of the outline.
+fn lowest(numbers: &[u16]) -> u16
+    requires { ⌜ 1 ≤ length (now numbers) ⌝ }
+    ensures { λ r. ⌜ r ≡ least (numberAt (now (numbers .entry))) (length (now (numbers .entry))) ⌝ }
+{
+    let mut low = numbers[0];
+    let mut i = 0;
+    while i < numbers.len() {
+        if numbers[i] < low {
+            low = numbers[i];
+        }
+        i += 1;
+    }
+    low
+}
+
+// The greatest of the numbers: the top of the outline.
+fn highest(numbers: &[u16]) -> u16
+    ensures { λ r. ⌜ r ≡ greatest (numberAt (now (numbers .entry))) (length (now (numbers .entry))) ⌝ }
+{
+    let mut high = 0;
+    let mut i = 0;
+    while i < numbers.len() {
+        if high < numbers[i] {
+            high = numbers[i];
+        }
+        i += 1;
+    }
+    high
+}
+
+// ---- rooms along a line
+
+// The first room that starts on the line at the point, or the number of rooms where there is none.
+fn find(on: &[u16], from: &[u16], line: u16, point: u16) -> usize
+    requires { ⌜ length (now from) ≡ length (now on) ⌝ }
+    ensures { λ r. ⌜ Search (length (now (on .entry))) (numberAt (now (on .entry))) (numberAt (now (from .entry))) line point r ⌝ }
+{
+    let mut i = 0;
+    while i < on.len() {
+        if on[i] == line {
+            if from[i] == point {
+                return i;
+            }
+        }
+        i += 1;
+    }
+    i
+}
+
+// The last of the rooms along the line, the first of which starts at the point, and each other one where the one before it ends.
+fn walk(on: &[u16], from: &[u16], to: &[u16], line: u16, point: u16) -> usize
+    requires { ⌜ (length (now from) ≡ length (now on)) × (length (now to) ≡ length (now on)) ⌝ ∗ ⌜ OneWay (length (now on)) (numberAt (now from)) (numberAt (now to)) ⌝ }
+    ensures { λ r. ⌜ Walked (length (now (on .entry))) (numberAt (now (on .entry))) (numberAt (now (from .entry))) (numberAt (now (to .entry))) line point r ⌝ }
+{
+    let mut room = find(on, from, line, point);
+    if room == on.len() {
+        return room;
+    }
+    let mut further = find(on, from, line, to[room]);
+    while further < on.len() {
+        room = further;
+        further = find(on, from, line, to[room]);
+    }
+    room
+}
+
+// The room that follows by position, or the number of rooms where there is none. With bottom and top exchanged: by label. The next room lies beyond the right side
+// or beyond the top, and of the rooms there it is the one that no other one comes before.
+fn next(left: &[u16], bottom: &[u16], right: &[u16], top: &[u16], room: usize) -> usize
+    requires { ⌜ Sized (now left) (now bottom) (now right) (now top) ⌝ ∗ ⌜ room < length (now left) ⌝ }
+    ensures { λ r. ⌜ Next (length (now (left .entry))) (numberAt (now (left .entry))) (numberAt (now (bottom .entry))) (numberAt (now (right .entry))) (numberAt (now (top .entry))) room r ⌝ }
+{
+    let beside = walk(left, top, bottom, right[room], top[room]);
+    if beside < left.len() {
+        return beside;
+    }
+    walk(bottom, right, left, top[room], right[room])
+}
+
+// ---- the orders
+
+// The rank of each room by position, from the room whose lower-left corner is (x, y). With bottom and top exchanged: by label, from the one whose upper-left corner it is.
+fn ranks_from(
+    left: &[u16],
+    bottom: &[u16],
+    right: &[u16],
+    top: &[u16],
+    x: u16,
+    y: u16,
+    ranks: &mut [u8; 255],
+)
+    requires { ⌜ ((f : ℕ → ℕ) × Ranked (length (now left)) (numberAt (now left)) (numberAt (now bottom)) (numberAt (now right)) (numberAt (now top)) x y f) ⌝
+        ∗ ⌜ Sized (now left) (now bottom) (now right) (now top) ⌝ ∗ ⌜ (length (now left) ≤ 255) × (length (now ranks) ≡ 255) ⌝ }
+    ensures size { λ _. ⌜ length (now (ranks .exit)) ≡ 255 ⌝ }
+    ensures each { λ _. ⌜ ((f : ℕ → ℕ)
+        → Ranked (length (now (left .entry))) (numberAt (now (left .entry))) (numberAt (now (bottom .entry))) (numberAt (now (right .entry))) (numberAt (now (top .entry))) x y f
+        → (i : ℕ) → i < length (now (left .entry)) → getD (now (ranks .exit)) i 0 ≡ f i) ⌝ }
+{
+    let n = left.len();
+    let mut room = find(left, bottom, x, y);
+    let mut rank = 1;
+    while rank <= n {
+        ranks[room] = rank as u8;
+        room = next(left, bottom, right, top, room);
+        rank += 1;
+    }
+}
+
+// The position of each room, at its place in the list: from the outline's lower-left corner.
+pub fn positions(left: &[u16], bottom: &[u16], right: &[u16], top: &[u16], ranks: &mut [u8; 255])
+    requires { ⌜ OneLength (now left) (now bottom) (now right) (now top) ⌝ ∗ ⌜ AcceptedRooms (roomsOf (now left) (now bottom) (now right) (now top) (length (now left))) ⌝ ∗ ⌜ length (now ranks) ≡ 255 ⌝ }
+    ensures size { λ _. ⌜ length (now (ranks .exit)) ≡ 255 ⌝ }
+    ensures each { λ _. ⌜ PositionsAt (roomsOf (now (left .entry)) (now (bottom .entry)) (now (right .entry)) (now (top .entry)) (length (now (left .entry)))) (length (now (left .entry))) (now (ranks .exit)) ⌝ }
+{
+    let x = lowest(left);
+    let y = lowest(bottom);
+    ranks_from(left, bottom, right, top, x, y, ranks);
+}
+
+// The label of each room, at its place in the list: bottom and top exchanged, so from the outline's upper-left corner.
+pub fn labels(left: &[u16], bottom: &[u16], right: &[u16], top: &[u16], ranks: &mut [u8; 255])
+    requires { ⌜ OneLength (now left) (now bottom) (now right) (now top) ⌝ ∗ ⌜ AcceptedRooms (roomsOf (now left) (now bottom) (now right) (now top) (length (now left))) ⌝ ∗ ⌜ length (now ranks) ≡ 255 ⌝ }
+    ensures size { λ _. ⌜ length (now (ranks .exit)) ≡ 255 ⌝ }
+    ensures each { λ _. ⌜ LabelsAt (roomsOf (now (left .entry)) (now (bottom .entry)) (now (right .entry)) (now (top .entry)) (length (now (left .entry)))) (length (now (left .entry))) (now (ranks .exit)) ⌝ }
+{
+    let x = lowest(left);
+    let y = highest(top);
+    ranks_from(left, top, right, bottom, x, y, ranks);
+}
+
+// ---- the label list
+
+// A byte as an index.
+fn wide(byte: u8) -> usize
+    ensures { λ r. ⌜ (r ≡ byte) × (r ≤ 255) ⌝ }
+{
+    byte as usize
+}
+
+// The labels by position, from the labels and the positions of the `n` rooms, which stand at the rooms' places.
+pub fn label_list(labels: &[u8; 255], positions: &[u8; 255], n: usize, list: &mut [u8; 255])
+    requires { ⌜ ((rooms : List Room) × LabelsAndPositions rooms n (now labels) (now positions)) ⌝ ∗ ⌜ length (now list) ≡ 255 ⌝ }
+    ensures size { λ _. ⌜ length (now (list .exit)) ≡ 255 ⌝ }
+    ensures list { λ _. ⌜ ((rooms : List Room) → LabelsAndPositions rooms n (now (labels .entry)) (now (positions .entry)) → take n (now (list .exit)) ≡ labelList rooms) ⌝ }
+{
+    let mut room = 0;
+    while room < n {
+        let place = wide(positions[room]) - 1;
+        list[place] = labels[room];
+        room += 1;
+    }
+}

@@ -1,0 +1,4 @@
+-- Rooms in.
+pub mod Answer
+pub mod Demand1
+pub mod Demand3

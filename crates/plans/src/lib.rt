@@ -1,0 +1,102 @@
+// Rooms in: a room list becomes its record, and the label and the position of each room; or it is refused with 1, 2, 3, 4, 5 or 15, in this order.
+ghost use mathlib.Core.Path.{_≡_};
+ghost use Prim.Native.Nat.{_≤_};
+ghost use lib.ListN.{length, getD};
+ghost use Rattle.finite.specs.Fill.{filled};
+ghost use Rattle.rooms.specs.Causes.{AcceptedRooms};
+ghost use Rattle.rooms.specs.LabelList.{recordOfRooms};
+ghost use Rattle.rooms.specs.Corners.{roomsOf, OneLength};
+ghost use Rattle.plans.specs.Answer.{roomsAnswer, labelsOfRooms, positionsOfRooms, written};
+use checks::Verdict;
+use record::LabelsAnswer;
+use record::Refusal;
+
+// What Rooms in answers: the record's length, or why not.
+pub enum RoomsAnswer {
+    Wrote(usize),
+    Refused(Refusal),
+}
+
+// Writes the first `n` numbers from the front of a slice, which has the room, and leaves the rest of it.
+fn put_front(numbers: &[u8; 255], n: usize, slice: &mut [u8])
+    requires { ⌜ (n ≤ 255) × (n ≤ length (now slice)) ⌝ }
+    ensures { λ _. ⌜ now (slice .exit) ≡ filled (λ i. getD (now (numbers .entry)) i 0) n (now (slice .entry)) ⌝ }
+{
+    let mut i = 0;
+    while i < n {
+        slice[i] = numbers[i];
+        i += 1;
+    }
+}
+
+// The record of an accepted room list, and the label and the position of each room; or 15, and the slices as they were. Its label list is Baxter, so that Labels in can only find the
+// record slice too short.
+fn write(
+    left: &[u16],
+    bottom: &[u16],
+    right: &[u16],
+    top: &[u16],
+    record: &mut [u8],
+    labels: &mut [u8],
+    positions: &mut [u8],
+) -> RoomsAnswer
+    requires { ⌜ OneLength (now left) (now bottom) (now right) (now top) ⌝ ∗ ⌜ AcceptedRooms (roomsOf (now left) (now bottom) (now right) (now top) (length (now left))) ⌝ }
+    ensures answer { λ r. ⌜ r ≡ roomsAnswer (roomsOf (now (left .entry)) (now (bottom .entry)) (now (right .entry)) (now (top .entry)) (length (now (left .entry)))) (length (now («record» .entry))) (length (now (labels .entry))) (length (now (positions .entry))) ⌝ }
+    ensures bytes { λ r. ⌜ now («record» .exit) ≡ written r (recordOfRooms (roomsOf (now (left .entry)) (now (bottom .entry)) (now (right .entry)) (now (top .entry)) (length (now (left .entry))))) (now («record» .entry)) ⌝ }
+    ensures each { λ r. ⌜ now (labels .exit) ≡ written r (labelsOfRooms (roomsOf (now (left .entry)) (now (bottom .entry)) (now (right .entry)) (now (top .entry)) (length (now (left .entry))))) (now (labels .entry)) ⌝ }
+    ensures places { λ r. ⌜ now (positions .exit) ≡ written r (positionsOfRooms (roomsOf (now (left .entry)) (now (bottom .entry)) (now (right .entry)) (now (top .entry)) (length (now (left .entry))))) (now (positions .entry)) ⌝ }
+{
+    let n = left.len();
+    if labels.len() < n {
+        return RoomsAnswer::Refused(Refusal::ShortOutput);
+    }
+    if positions.len() < n {
+        return RoomsAnswer::Refused(Refusal::ShortOutput);
+    }
+    let mut label_of = [0u8; 255];
+    let mut position_of = [0u8; 255];
+    let mut list = [0u8; 255];
+    orders::positions(left, bottom, right, top, &mut position_of);
+    orders::labels(left, bottom, right, top, &mut label_of);
+    orders::label_list(&label_of, &position_of, n, &mut list);
+    match labels::labels_in(&list[..n], record) {
+        LabelsAnswer::Refused(refusal) => RoomsAnswer::Refused(refusal),
+        LabelsAnswer::Wrote(size) => {
+            put_front(&label_of, n, labels);
+            put_front(&position_of, n, positions);
+            RoomsAnswer::Wrote(size)
+        }
+    }
+}
+
+// Rooms in, on corners that stand in four lists of one length: the causes in their order, and then the record, the labels and the positions.
+pub fn enter(
+    left: &[u16],
+    bottom: &[u16],
+    right: &[u16],
+    top: &[u16],
+    record: &mut [u8],
+    labels: &mut [u8],
+    positions: &mut [u8],
+) -> RoomsAnswer
+    requires { ⌜ OneLength (now left) (now bottom) (now right) (now top) ⌝ }
+    ensures answer { λ r. ⌜ r ≡ roomsAnswer (roomsOf (now (left .entry)) (now (bottom .entry)) (now (right .entry)) (now (top .entry)) (length (now (left .entry)))) (length (now («record» .entry))) (length (now (labels .entry))) (length (now (positions .entry))) ⌝ }
+    ensures bytes { λ r. ⌜ now («record» .exit) ≡ written r (recordOfRooms (roomsOf (now (left .entry)) (now (bottom .entry)) (now (right .entry)) (now (top .entry)) (length (now (left .entry))))) (now («record» .entry)) ⌝ }
+    ensures each { λ r. ⌜ now (labels .exit) ≡ written r (labelsOfRooms (roomsOf (now (left .entry)) (now (bottom .entry)) (now (right .entry)) (now (top .entry)) (length (now (left .entry))))) (now (labels .entry)) ⌝ }
+    ensures places { λ r. ⌜ now (positions .exit) ≡ written r (positionsOfRooms (roomsOf (now (left .entry)) (now (bottom .entry)) (now (right .entry)) (now (top .entry)) (length (now (left .entry))))) (now (positions .entry)) ⌝ }
+{
+    let n = left.len();
+    if n == 0 {
+        return RoomsAnswer::Refused(Refusal::Count);
+    }
+    if 255 < n {
+        return RoomsAnswer::Refused(Refusal::Count);
+    }
+    match checks::judge(left, bottom, right, top) {
+        Verdict::RoomSize => RoomsAnswer::Refused(Refusal::RoomSize),
+        Verdict::Overlap => RoomsAnswer::Refused(Refusal::Overlap),
+        Verdict::Uncovered => RoomsAnswer::Refused(Refusal::Uncovered),
+        Verdict::FourMeet => RoomsAnswer::Refused(Refusal::FourMeet),
+        Verdict::Accepted => write(left, bottom, right, top, record, labels, positions),
+    }
+}
