@@ -29,8 +29,8 @@ pub fn labels_in(labels: &[u8], record: &mut [u8]) -> Result<usize, Refusal> {
 }
 
 /// The number of entries, if there are 1 to 255.
-fn room_count(labels: &[u8]) -> Option<u8> {
-    u8::try_from(labels.len()).ok().filter(|&n| n >= 1)
+pub(crate) fn room_count<T>(list: &[T]) -> Option<u8> {
+    u8::try_from(list.len()).ok().filter(|&n| n >= 1)
 }
 
 /// Whether some label stands at two positions.

@@ -77,6 +77,6 @@ impl Plan {
 }
 
 /// The first `n` entries of an output slice.
-fn front<T>(slice: &mut [T], n: usize) -> Result<&mut [T], Refusal> {
+pub(crate) fn front<T>(slice: &mut [T], n: usize) -> Result<&mut [T], Refusal> {
     slice.get_mut(..n).ok_or(Refusal::SliceShort)
 }

@@ -3,16 +3,16 @@
 use crate::Room;
 
 /// An edge of a room: a piece of a line from one place on it to another.
-#[derive(Clone, Copy, PartialEq, Eq)]
-struct Edge {
-    line: Line,
-    from: u16,
-    to: u16,
+#[derive(Clone, Copy, Debug, PartialEq, Eq, PartialOrd, Ord)]
+pub(crate) struct Edge {
+    pub(crate) line: Line,
+    pub(crate) from: u16,
+    pub(crate) to: u16,
 }
 
 /// A grid line.
-#[derive(Clone, Copy, PartialEq, Eq)]
-enum Line {
+#[derive(Clone, Copy, Debug, PartialEq, Eq, PartialOrd, Ord)]
+pub(crate) enum Line {
     /// At this many steps across.
     Vertical(u16),
     /// At this many steps up.
@@ -33,7 +33,7 @@ impl Edge {
 
 impl Room {
     /// The edges: left, right, bottom, top.
-    fn edges(self) -> [Edge; 4] {
+    pub(crate) fn edges(self) -> [Edge; 4] {
         let upright = |at| Edge {
             line: Line::Vertical(at),
             from: self.bottom,

@@ -1,0 +1,72 @@
+//! The causes 1 to 5 in the sheet's table of refusals.
+
+use std::collections::BTreeMap;
+
+use super::ranks::ranked;
+use crate::labels::room_count;
+use crate::{Refusal, Room};
+
+/// A floorplan: what a room list is that has none of the causes 1 to 5.
+pub(super) struct Floorplan {
+    /// The number of rooms.
+    pub(super) n: u8,
+    /// The rooms in list order, by ranks.
+    pub(super) rooms: Vec<Room>,
+}
+
+/// The floorplan that a room list is.
+///
+/// # Errors
+///
+/// The first cause found in the order 1, 2, 3, 4, 5.
+pub(super) fn floorplan_of(rooms: &[Room]) -> Result<Floorplan, Refusal> {
+    let n = room_count(rooms).ok_or(Refusal::ListLength)?;
+    let is_empty = |room: &Room| room.right <= room.left || room.top <= room.bottom;
+    if rooms.iter().any(is_empty) {
+        return Err(Refusal::EmptyRoom);
+    }
+    let rooms = ranked(rooms);
+    let squares = rooms_on_squares(&rooms);
+    if squares.iter().any(|&count| count >= 2) {
+        return Err(Refusal::SharedSquare);
+    }
+    if squares.contains(&0) {
+        return Err(Refusal::OpenSquare);
+    }
+    // Rooms that share no square are at most four at a point.
+    if rooms_at_corners(&rooms).values().any(|&count| count >= 4) {
+        return Err(Refusal::FourRoomsMeet);
+    }
+    Ok(Floorplan { n, rooms })
+}
+
+/// The number of rooms on each unit square of the outline, which by ranks is
+/// the box from 0 to the largest right and the largest top.
+fn rooms_on_squares(rooms: &[Room]) -> Vec<usize> {
+    let width = rooms.iter().map(|room| room.right).max().unwrap_or(0);
+    let height = rooms.iter().map(|room| room.top).max().unwrap_or(0);
+    let square = |x: u16, y: u16| usize::from(x) * usize::from(height) + usize::from(y);
+
+    let mut counts = vec![0; square(width, 0)];
+    for room in rooms {
+        for x in room.left..room.right {
+            for y in room.bottom..room.top {
+                counts[square(x, y)] += 1;
+            }
+        }
+    }
+    counts
+}
+
+/// The number of rooms that have a corner at each point where a corner is.
+fn rooms_at_corners(rooms: &[Room]) -> BTreeMap<(u16, u16), usize> {
+    let mut counts = BTreeMap::new();
+    for room in rooms {
+        for x in [room.left, room.right] {
+            for y in [room.bottom, room.top] {
+                *counts.entry((x, y)).or_insert(0) += 1;
+            }
+        }
+    }
+    counts
+}

@@ -1,0 +1,103 @@
+//! The causes 1 to 5 to the letter, on every unit square and every point.
+
+use crate::help::{ask, rooms, Dice};
+use reference::{Refusal, Room};
+
+/// The cause that a list has, if any. Nothing is left out by ranks here.
+fn cause(rooms: &[Room]) -> Option<Refusal> {
+    if rooms.is_empty() || rooms.len() > 255 {
+        return Some(Refusal::ListLength);
+    }
+    if rooms.iter().any(|r| r.right <= r.left || r.top <= r.bottom) {
+        return Some(Refusal::EmptyRoom);
+    }
+    let across = rooms.iter().map(|r| r.left).min()?..rooms.iter().map(|r| r.right).max()?;
+    let up = rooms.iter().map(|r| r.bottom).min()?..rooms.iter().map(|r| r.top).max()?;
+    let squares: Vec<usize> = across
+        .flat_map(|x| up.clone().map(move |y| (x, y)))
+        .map(|(x, y)| {
+            let holds =
+                |r: &&Room| (r.left..r.right).contains(&x) && (r.bottom..r.top).contains(&y);
+            rooms.iter().filter(holds).count()
+        })
+        .collect();
+    if squares.iter().any(|&count| count > 1) {
+        return Some(Refusal::SharedSquare);
+    }
+    if squares.contains(&0) {
+        return Some(Refusal::OpenSquare);
+    }
+    let meet = |x: u16, y: u16| {
+        let corner = |r: &&Room| (r.left == x || r.right == x) && (r.bottom == y || r.top == y);
+        rooms.iter().filter(corner).count() == 4
+    };
+    rooms
+        .iter()
+        .any(|r| meet(r.right, r.top))
+        .then_some(Refusal::FourRoomsMeet)
+}
+
+/// How often each cause was met; no cause is 0.
+type Met = [usize; 6];
+
+fn check(rooms: &[Room], met: &mut Met) {
+    let expected = cause(rooms);
+    let answer = ask(rooms);
+    assert_eq!(answer.err(), expected, "{rooms:?}");
+    met[expected.map_or(0, |cause| usize::from(cause.number()))] += 1;
+}
+
+#[test]
+fn every_list_of_up_to_2_rooms_in_a_3_by_3_box() {
+    let corners: Vec<[u16; 4]> = (0..256)
+        .map(|code| [code % 4, code / 4 % 4, code / 16 % 4, code / 64])
+        .collect();
+    let mut met = [0; 6];
+    for &first in &corners {
+        check(&rooms(&[first]), &mut met);
+        for &second in &corners {
+            check(&rooms(&[first, second]), &mut met);
+        }
+    }
+    assert_eq!(met.iter().sum::<usize>(), 256 + 65_536);
+    // 36 boxes; pairs are refused with 2 unless both are such boxes
+    assert_eq!(met[2], 256 - 36 + 65_536 - 36 * 36);
+    // a box alone; or one cut in two, across or up, in either order: 4 spans
+    // with a place to cut them, by 6 spans the other way
+    assert_eq!(met[0], 36 + 2 * 2 * 4 * 6);
+    assert!(met[3] > 300 && met[4] > 300, "{met:?}");
+}
+
+/// Cuts a box of 6 by 6 at a few places, then spoils it in some rounds.
+#[test]
+fn boxes_cut_at_random_and_spoiled() {
+    let mut dice = Dice(5);
+    let mut met = [0; 6];
+    for round in 0..40_000 {
+        let mut corners = vec![[0, 0, 6, 6]];
+        for _ in 0..dice.below(7) {
+            let at = dice.below(corners.len());
+            let way = dice.below(2);
+            let mut other = corners[at];
+            if other[way + 2] - other[way] >= 2 {
+                let cut = dice.between(other[way] + 1, other[way + 2] - 1);
+                corners[at][way + 2] = cut;
+                other[way] = cut;
+                corners.push(other);
+            }
+        }
+        match round % 4 {
+            0 => {
+                let at = dice.below(corners.len());
+                corners[at][dice.below(4)] = dice.between(0, 7);
+            }
+            1 => {
+                corners.remove(dice.below(corners.len()));
+            }
+            _ => {}
+        }
+        dice.shuffle(&mut corners);
+        check(&rooms(&corners), &mut met);
+    }
+    assert!(met.iter().all(|&count| count > 500), "{met:?}");
+}
