@@ -88,13 +88,6 @@ bitAt-byte bytes j i h =
     let r : (8 * j + i) % 8 ≡ i = omega arith in
     rw (q, r)
 
--- past the end of a list every bit is clear
-pub bitAt-past : (bytes : List ℕ) (i : ℕ) → 8 * length bytes ≤ i → bitAt bytes i ≡ false
-unfolding bitAt bitIn
-bitAt-past bytes i h =
-    let past : length bytes ≤ i / 8 = omega arith in
-    rw (List·getD-eq-default bytes 0 past, zero-div)
-
 -- two lists of as many bytes with the same bits are the same list
 pub same-bits : (xs ys : List ℕ) → Bytes xs → Bytes ys → length xs ≡ length ys
     → ((i : ℕ) → i < 8 * length xs → bitAt xs i ≡ bitAt ys i) → xs ≡ ys

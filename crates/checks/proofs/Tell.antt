@@ -2,20 +2,12 @@
 use mathlib.Core.Path.{_≡_, refl}
 use mathlib.Core.Bool.{Bool, true, false, not}
 use mathlib.Core.Logic.{_≢_}
-use Prim.Native.Nat.{ℕ, _<_}
-use native.Mathlib.Omega.{arith}
-use borrow.Author.Tests.{ltb-true, ltb-false, eqb-true, eqb-false}
-use lib.Dec.{ltb, eqb}
+use Prim.Native.Nat.{ℕ}
+use borrow.Author.Tests.{eqb-true, eqb-false}
+use lib.Dec.{eqb}
 use Rattle.finite.specs.Decide.{Tells}
 
 module _ (A : Type 0) (a b : ℕ) where
-  pub less-tells : (a < b → A) → (A → a < b) → Tells (ltb a b) A
-  less-tells there back = go (ltb a b) refl
-    where
-      go : (t : Bool) → ltb a b ≡ t → Tells t A
-      go true e = there (ltb-true a b e)
-      go false e = λ h. omega (arith, ltb-false a b e, back h)
-
   pub equal-tells : (a ≡ b → A) → (A → a ≡ b) → Tells (eqb a b) A
   equal-tells there back = go (eqb a b) refl
     where

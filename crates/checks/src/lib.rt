@@ -58,7 +58,7 @@ fn larger(a: u16, b: u16) -> u16
 // ---- cause 2
 
 // Whether a room has no width or no height.
-pub fn flat(left: &[u16], bottom: &[u16], right: &[u16], top: &[u16]) -> bool
+fn flat(left: &[u16], bottom: &[u16], right: &[u16], top: &[u16]) -> bool
     requires { ⌜ OneLength (now left) (now bottom) (now right) (now top) ⌝ }
     ensures { λ r. ⌜ Tells r (RoomSize (roomsIn (now (left .entry)) (now (bottom .entry)) (now (right .entry)) (now (top .entry)))) ⌝ }
 {
@@ -111,7 +111,7 @@ fn shares_earlier(left: &[u16], bottom: &[u16], right: &[u16], top: &[u16], j: u
 }
 
 // Whether two rooms share a unit square.
-pub fn overlap(left: &[u16], bottom: &[u16], right: &[u16], top: &[u16]) -> bool
+fn overlap(left: &[u16], bottom: &[u16], right: &[u16], top: &[u16]) -> bool
     requires { ⌜ OneLength (now left) (now bottom) (now right) (now top) ⌝ }
     ensures { λ r. ⌜ Tells r (Overlap (roomsIn (now (left .entry)) (now (bottom .entry)) (now (right .entry)) (now (top .entry)))) ⌝ }
 {
@@ -180,7 +180,7 @@ fn areas(left: &[u16], bottom: &[u16], right: &[u16], top: &[u16]) -> u64
 }
 
 // Whether a unit square of the outline is in no room: rooms that share none fill the outline just where their areas add up to its own.
-pub fn uncovered(left: &[u16], bottom: &[u16], right: &[u16], top: &[u16]) -> bool
+fn uncovered(left: &[u16], bottom: &[u16], right: &[u16], top: &[u16]) -> bool
     requires { ⌜ OneLength (now left) (now bottom) (now right) (now top) ⌝ }
     requires { ⌜ (1 ≤ length (now left)) × (length (now left) ≤ 255) ⌝ }
     requires { ⌜ ¬ RoomSize (roomsIn (now left) (now bottom) (now right) (now top)) ⌝ }
@@ -226,7 +226,7 @@ fn starts_at(left: &[u16], bottom: &[u16], x: u16, y: u16) -> bool
 
 // Whether four rooms meet at a point. Where two rooms lie across a point, the one's upper-right corner and the other's lower-left corner there, the rooms
 // between them have a corner there too, since no unit square is left over.
-pub fn four_meet(left: &[u16], bottom: &[u16], right: &[u16], top: &[u16]) -> bool
+fn four_meet(left: &[u16], bottom: &[u16], right: &[u16], top: &[u16]) -> bool
     requires { ⌜ OneLength (now left) (now bottom) (now right) (now top) ⌝ }
     requires { ⌜ ¬ RoomSize (roomsIn (now left) (now bottom) (now right) (now top)) ⌝ }
     requires { ⌜ ¬ Overlap (roomsIn (now left) (now bottom) (now right) (now top)) ⌝ }

@@ -44,11 +44,6 @@ module _ (P Q : ℕ → Type 0) (d : (i : ℕ) → Dec (P i)) (t : (i : ℕ) →
       sum-lt (λ i. indicator (d i)) (λ i. indicator (t i)) a e (λ i b c. indicator-le (d i) (t i) (f i b c)) j from to
       (indicator-lt (d j) (t j) np q)
 
--- the same things counted
-pub count-same : (P Q : ℕ → Type 0) (d : (i : ℕ) → Dec (P i)) (t : (i : ℕ) → Dec (Q i)) (a e : ℕ) → Each (λ i. P i → Q i) a e
-    → Each (λ i. Q i → P i) a e → count P d a e ≡ count Q t a e
-count-same P Q d t a e f g = omega (arith, count-le P Q d t a e f, count-le Q P t d a e g)
-
 -- where something does not have P, not all are counted
 pub count-short : (P : ℕ → Type 0) (d : (i : ℕ) → Dec (P i)) (a e j : ℕ) → a ≤ j → j < e → ¬ P j → count P d a e < e - a
 unfolding count indicator

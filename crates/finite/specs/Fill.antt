@@ -4,17 +4,13 @@ use mathlib.Core.Logic.{_⊎_, inl, inr}
 use mathlib.Core.List.{List, [], _∷_, _++_}
 use Prim.Native.Nat.{ℕ, zero, suc, _+_, _≤_, _<_}
 use native.Mathlib.Omega.{arith}
-use lib.ListN.{length, getD, set, drop, length-set, List·getD-append}
+use lib.ListN.{length, getD, set, drop, length-set}
 use lib.Seq.{getD-set-same, getD-set-other}
 use Rattle.finite.specs.Decide.{eq-or-ne}
-use Rattle.finite.specs.Table.{table, length-table, getD-table}
+use Rattle.finite.specs.Table.{table}
 
 abbrev pub filled : (ℕ → ℕ) → (n : ℕ) → List ℕ → List ℕ
 filled f n before = table f n ++ drop n before
-
--- a place that is filled
-pub filled-at : (f : ℕ → ℕ) (n : ℕ) (before : List ℕ) (i : ℕ) → i < n → getD (filled f n before) i 0 ≡ f i
-filled-at f n before i h = List·getD-append (table f n) (drop n before) 0 i (rw (length-table f n) h) ∙ getD-table f n i 0 h
 
 -- the places a to b - 1 are filled, and all others are as they were
 pub record Filling (f : ℕ → ℕ) (a b : ℕ) (before now : List ℕ) : Type 0 where

@@ -72,7 +72,7 @@ fn write(
 }
 
 // Rooms in, on corners that stand in four lists of one length: the causes in their order, and then the record, the labels and the positions.
-pub fn enter(
+fn enter(
     left: &[u16],
     bottom: &[u16],
     right: &[u16],

@@ -167,7 +167,7 @@ fn forward(
 // The labels from the end, where all are one run: the newest label is taken out of the current run. Of each run below, the stack has the lowest label and the
 // position, less 1, that first came to lie below it; of each run above, the label under it and the position, less 1, that first came to lie above it. The body
 // is what the contract speaks of; the triples are read as `forward` noted them.
-pub fn backward(
+fn backward(
     body: &[u8],
     n: usize,
     triples: &[u8; 255],
