@@ -30,15 +30,15 @@ use Rattle.plans.specs.declared.RoomsAnswer.the-variants.{Wrote, Refused
 -- ---- what an answer that is no refusal says
 abbrev Accepts : List Room → RoomsAnswer → Type 0
 Accepts rooms (Wrote n) = AcceptedRooms rooms × (n ≡ length (recordOfRooms rooms))
-Accepts rooms (Refused refusal) = ⊥ → ⊥
+Accepts rooms (Refused refusal) = Unit
 
 says-accepts : (rooms : List Room) {capacity labels positions : ℕ} {answer : RoomsAnswer} → RoomsSays rooms capacity labels positions answer → Accepts rooms answer
-says-accepts rooms (count a) = λ x. x
-says-accepts rooms (size a b) = λ x. x
-says-accepts rooms (overlap a b c) = λ x. x
-says-accepts rooms (uncovered a b c d) = λ x. x
-says-accepts rooms (four-meet a b c d e) = λ x. x
-says-accepts rooms (short k s) = λ x. x
+says-accepts rooms (count a) = tt
+says-accepts rooms (size a b) = tt
+says-accepts rooms (overlap a b c) = tt
+says-accepts rooms (uncovered a b c d) = tt
+says-accepts rooms (four-meet a b c d e) = tt
+says-accepts rooms (short k s) = tt
 says-accepts rooms (wrote k s) = (k, refl)
 
 wrote-accepts : (rooms : List Room) (capacity labels positions n : ℕ) → roomsAnswer rooms capacity labels positions ≡ Wrote n → AcceptedRooms rooms × (n ≡ length (recordOfRooms rooms))
