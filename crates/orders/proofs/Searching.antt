@@ -1,4 +1,4 @@
--- What `find`, `walk` and `next` give, turn by turn, and the number that falls with each turn of `walk`.
+-- What `corner_room`, `walk` and `next` give, turn by turn, and the number that falls with each turn of `walk`.
 use mathlib.Core.Path.{_≡_, refl, subst}
 use mathlib.Core.Logic.{_⊎_, inl, inr}
 use Prim.Native.Nat.{ℕ, _-_, _≤_, _<_}

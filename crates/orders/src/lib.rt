@@ -3,13 +3,14 @@
 ghost use mathlib.Core.Path.{_≡_};
 ghost use mathlib.Core.List.{List};
 ghost use Prim.Native.Nat.{ℕ, _≤_, _<_};
-ghost use lib.ListN.{length, getD, take};
+ghost use lib.ListN.{length, getD, replicate, take};
 ghost use Rattle.drawing.specs.declared.Room.{Room};
 ghost use Rattle.rooms.specs.Outline.{least, greatest};
 ghost use Rattle.rooms.specs.Causes.{AcceptedRooms};
 ghost use Rattle.rooms.specs.LabelList.{labelList};
 ghost use Rattle.rooms.specs.Corners.{roomsOf, OneLength};
 ghost use Rattle.orders.specs.Found.{numberAt, OneWay, Sized, Search, Walked, Next};
+ghost use Rattle.orders.specs.Listed.{bucketOf, Listed};
 ghost use Rattle.orders.specs.Ranked.{Ranked};
 ghost use Rattle.orders.specs.LabelsAndPositions.{PositionsAt, LabelsAt, LabelsAndPositions};
 
@@ -48,15 +49,137 @@ fn highest(numbers: &[u16]) -> u16
 
 // ---- rooms along a line
 
-// The first room that starts on the line at the point, or the number of rooms where there is none.
-fn find(on: &[u16], from: &[u16], line: u16, point: u16) -> usize
-    requires { ⌜ length (now from) ≡ length (now on) ⌝ }
-    ensures { λ r. ⌜ Search (length (now (on .entry))) (numberAt (now (on .entry))) (numberAt (now (from .entry))) line point r ⌝ }
+// A byte as an index.
+fn wide(byte: u8) -> usize
+    ensures { λ r. ⌜ (r ≡ byte) × (r ≤ 255) ⌝ }
+{
+    byte as usize
+}
+
+// The bucket under which a room that starts on the line at the point is listed. Any number below 256 would do; this one spreads the rooms well.
+fn bucket(line: u16, point: u16) -> usize
+    ensures { λ r. ⌜ (r ≡ bucketOf line point) × (r < 256) ⌝ }
+{
+    (line as usize * 40503 + point as usize * 11003) / 128 % 256
+}
+
+// Lists every room under its bucket: `newest` has the last room of each bucket, and `older` the one before each room, both counted from 1, and 0 for none.
+fn list_starts(on: &[u16], from: &[u16], newest: &mut [u8; 256], older: &mut [u8; 255])
+    requires { ⌜ (length (now from) ≡ length (now on)) × (length (now on) ≤ 255) ⌝ ∗ ⌜ (now newest ≡ replicate 256 0) × (length (now older) ≡ 255) ⌝ }
+    ensures { λ _. ⌜ Listed (length (now (on .entry))) (numberAt (now (on .entry))) (numberAt (now (from .entry))) (now (newest .exit)) (now (older .exit)) ⌝ }
 {
     let mut i = 0;
     while i < on.len() {
+        let at = bucket(on[i], from[i]);
+        older[i] = newest[at];
+        i += 1;
+        newest[at] = i as u8;
+    }
+}
+
+// A room that starts on the line at the point, or the number of rooms where there is none. Only the rooms of one bucket are looked at.
+fn look_up(
+    on: &[u16],
+    from: &[u16],
+    newest: &[u8; 256],
+    older: &[u8; 255],
+    line: u16,
+    point: u16,
+) -> usize
+    requires { ⌜ (length (now from) ≡ length (now on)) × (length (now on) ≤ 255) ⌝ ∗ ⌜ Listed (length (now on)) (numberAt (now on)) (numberAt (now from)) (now newest) (now older) ⌝ }
+    ensures { λ r. ⌜ Search (length (now (on .entry))) (numberAt (now (on .entry))) (numberAt (now (from .entry))) line point r ⌝ }
+{
+    let mut at = wide(newest[bucket(line, point)]);
+    while 0 < at {
+        let i = at - 1;
         if on[i] == line {
             if from[i] == point {
+                return i;
+            }
+        }
+        at = wide(older[i]);
+    }
+    on.len()
+}
+
+// The last of the rooms along the line, the first of which starts at the point, and each other one where the one before it ends.
+fn walk(
+    on: &[u16],
+    from: &[u16],
+    to: &[u16],
+    newest: &[u8; 256],
+    older: &[u8; 255],
+    line: u16,
+    point: u16,
+) -> usize
+    requires { ⌜ (length (now from) ≡ length (now on)) × (length (now to) ≡ length (now on)) × (length (now on) ≤ 255) ⌝ ∗ ⌜ OneWay (length (now on)) (numberAt (now from)) (numberAt (now to)) ⌝
+        ∗ ⌜ Listed (length (now on)) (numberAt (now on)) (numberAt (now from)) (now newest) (now older) ⌝ }
+    ensures { λ r. ⌜ Walked (length (now (on .entry))) (numberAt (now (on .entry))) (numberAt (now (from .entry))) (numberAt (now (to .entry))) line point r ⌝ }
+{
+    let mut room = look_up(on, from, newest, older, line, point);
+    if room == on.len() {
+        return room;
+    }
+    let mut further = look_up(on, from, newest, older, line, to[room]);
+    while further < on.len() {
+        room = further;
+        further = look_up(on, from, newest, older, line, to[room]);
+    }
+    room
+}
+
+// The room that follows by position, or the number of rooms where there is none. With bottom and top exchanged: by label. The next room lies beyond the right side
+// or beyond the top, and of the rooms there it is the one that no other one comes before. The rooms are listed by left and top, and by bottom and right.
+fn next(
+    left: &[u16],
+    bottom: &[u16],
+    right: &[u16],
+    top: &[u16],
+    by_left: &[u8; 256],
+    older_by_left: &[u8; 255],
+    by_bottom: &[u8; 256],
+    older_by_bottom: &[u8; 255],
+    room: usize,
+) -> usize
+    requires { ⌜ Sized (now left) (now bottom) (now right) (now top) ⌝ ∗ ⌜ (room < length (now left)) × (length (now left) ≤ 255) ⌝
+        ∗ ⌜ Listed (length (now left)) (numberAt (now left)) (numberAt (now top)) (now «by_left») (now «older_by_left») ⌝
+        ∗ ⌜ Listed (length (now bottom)) (numberAt (now bottom)) (numberAt (now right)) (now «by_bottom») (now «older_by_bottom») ⌝ }
+    ensures { λ r. ⌜ Next (length (now (left .entry))) (numberAt (now (left .entry))) (numberAt (now (bottom .entry))) (numberAt (now (right .entry))) (numberAt (now (top .entry))) room r ⌝ }
+{
+    let beside = walk(
+        left,
+        top,
+        bottom,
+        by_left,
+        older_by_left,
+        right[room],
+        top[room],
+    );
+    if beside < left.len() {
+        return beside;
+    }
+    walk(
+        bottom,
+        right,
+        left,
+        by_bottom,
+        older_by_bottom,
+        top[room],
+        right[room],
+    )
+}
+
+// ---- the orders
+
+// The room whose corner is (x, y), or the number of rooms where there is none.
+fn corner_room(left: &[u16], bottom: &[u16], x: u16, y: u16) -> usize
+    requires { ⌜ length (now bottom) ≡ length (now left) ⌝ }
+    ensures { λ r. ⌜ Search (length (now (left .entry))) (numberAt (now (left .entry))) (numberAt (now (bottom .entry))) x y r ⌝ }
+{
+    let mut i = 0;
+    while i < left.len() {
+        if left[i] == x {
+            if bottom[i] == y {
                 return i;
             }
         }
@@ -64,38 +187,6 @@ fn find(on: &[u16], from: &[u16], line: u16, point: u16) -> usize
     }
     i
 }
-
-// The last of the rooms along the line, the first of which starts at the point, and each other one where the one before it ends.
-fn walk(on: &[u16], from: &[u16], to: &[u16], line: u16, point: u16) -> usize
-    requires { ⌜ (length (now from) ≡ length (now on)) × (length (now to) ≡ length (now on)) ⌝ ∗ ⌜ OneWay (length (now on)) (numberAt (now from)) (numberAt (now to)) ⌝ }
-    ensures { λ r. ⌜ Walked (length (now (on .entry))) (numberAt (now (on .entry))) (numberAt (now (from .entry))) (numberAt (now (to .entry))) line point r ⌝ }
-{
-    let mut room = find(on, from, line, point);
-    if room == on.len() {
-        return room;
-    }
-    let mut further = find(on, from, line, to[room]);
-    while further < on.len() {
-        room = further;
-        further = find(on, from, line, to[room]);
-    }
-    room
-}
-
-// The room that follows by position, or the number of rooms where there is none. With bottom and top exchanged: by label. The next room lies beyond the right side
-// or beyond the top, and of the rooms there it is the one that no other one comes before.
-fn next(left: &[u16], bottom: &[u16], right: &[u16], top: &[u16], room: usize) -> usize
-    requires { ⌜ Sized (now left) (now bottom) (now right) (now top) ⌝ ∗ ⌜ room < length (now left) ⌝ }
-    ensures { λ r. ⌜ Next (length (now (left .entry))) (numberAt (now (left .entry))) (numberAt (now (bottom .entry))) (numberAt (now (right .entry))) (numberAt (now (top .entry))) room r ⌝ }
-{
-    let beside = walk(left, top, bottom, right[room], top[room]);
-    if beside < left.len() {
-        return beside;
-    }
-    walk(bottom, right, left, top[room], right[room])
-}
-
-// ---- the orders
 
 // The rank of each room by position, from the room whose lower-left corner is (x, y). With bottom and top exchanged: by label, from the one whose upper-left corner it is.
 fn ranks_from(
@@ -115,11 +206,27 @@ fn ranks_from(
         → (i : ℕ) → i < length (now (left .entry)) → getD (now (ranks .exit)) i 0 ≡ f i) ⌝ }
 {
     let n = left.len();
-    let mut room = find(left, bottom, x, y);
+    let mut by_left = [0u8; 256];
+    let mut older_by_left = [0u8; 255];
+    let mut by_bottom = [0u8; 256];
+    let mut older_by_bottom = [0u8; 255];
+    list_starts(left, top, &mut by_left, &mut older_by_left);
+    list_starts(bottom, right, &mut by_bottom, &mut older_by_bottom);
+    let mut room = corner_room(left, bottom, x, y);
     let mut rank = 1;
     while rank <= n {
         ranks[room] = rank as u8;
-        room = next(left, bottom, right, top, room);
+        room = next(
+            left,
+            bottom,
+            right,
+            top,
+            &by_left,
+            &older_by_left,
+            &by_bottom,
+            &older_by_bottom,
+            room,
+        );
         rank += 1;
     }
 }
@@ -147,13 +254,6 @@ pub fn labels(left: &[u16], bottom: &[u16], right: &[u16], top: &[u16], ranks: &
 }
 
 // ---- the label list
-
-// A byte as an index.
-fn wide(byte: u8) -> usize
-    ensures { λ r. ⌜ (r ≡ byte) × (r ≤ 255) ⌝ }
-{
-    byte as usize
-}
 
 // The labels by position, from the labels and the positions of the `n` rooms, which stand at the rooms' places.
 pub fn label_list(labels: &[u8; 255], positions: &[u8; 255], n: usize, list: &mut [u8; 255])

@@ -38,9 +38,10 @@ shared-slice-read-walk-4 c = search needs
 
 walk-requires-2 : tie.Need-walk-requires-2
 walk-requires-2 c κs =
-    let sized = c .before .before .before .before .before .before .before .before .before .before .pre .0 in
+    let asked = c .before .before .before .before .before .before .before .before .before .before .pre in
+    let sized = asked .0 in
     let lengths = sized .lengths in
-    ((omega (arith, lengths), omega (arith, lengths)), inl (λ i h. sized .wide i (omega (arith, lengths .bottoms-length))))
+    ((omega (arith, lengths), omega (arith, lengths), omega (arith, lengths, asked .1 .0 .1)), (inl (λ i h. sized .wide i (omega (arith, lengths .bottoms-length))), asked .1 .1 .1))
 
 returns-2 : tie.Need-returns-2
 returns-2 c =

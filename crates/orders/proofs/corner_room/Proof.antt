@@ -1,4 +1,4 @@
--- `find` meets its contract: no room before the one looked at starts on the line at the point.
+-- `corner_room` meets its contract: no room before the one looked at has its corner there.
 use mathlib.Core.Path.{_≡_}
 use mathlib.Core.Logic.{⊎-elim}
 use Prim.Native.Nat.{ℕ, _≤_, _<_, _-_}
@@ -8,14 +8,14 @@ use lib.ListN.{length}
 use Rattle.orders.specs.Found.{numberAt}
 use Rattle.orders.proofs.Searching.{search-done}
 use borrow.Author.Needs.{needs}
-use Rattle.orders.proofs.find.Statement.{statement}
-use Rattle.orders.proofs.find.Tie as tie
+use Rattle.orders.proofs.corner_room.Statement.{statement}
+use Rattle.orders.proofs.corner_room.Tie as tie
 
 abbrev Inv-loop : tie.InvT-loop
-Inv-loop on from line point i₀ i = (i ≤ length on) × ((j : ℕ) → j < i → (numberAt on j ≡ line) × (numberAt from j ≡ point) → ⊥)
+Inv-loop left bottom x y i₀ i = (i ≤ length left) × ((j : ℕ) → j < i → (numberAt left j ≡ x) × (numberAt bottom j ≡ y) → ⊥)
 
 abbrev μ-loop : tie.MeasureT-loop
-μ-loop on from line point i₀ i = length on - i
+μ-loop left bottom x y i₀ i = length left - i
 
 loop-holds : tie.Need-loop-holds Inv-loop μ-loop
 loop-holds c = search needs
@@ -47,8 +47,8 @@ loop-again c = (search needs, below-more _ _ (c .before .before .before .loop .i
 returns-2 : tie.Need-returns-2 Inv-loop μ-loop
 returns-2 c = search-done (omega arith) (λ l. absurd (omega arith)) (c .before .loop .inv .1)
 
-pub find-spec : {M : Type 1} → statement M
-find-spec =
+pub corner-room-spec : {M : Type 1} → statement M
+corner-room-spec =
     tie.close
     (tie.spec
     Inv-loop
