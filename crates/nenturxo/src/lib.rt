@@ -5,11 +5,15 @@ ghost use lib.ListN.{length};
 ghost use Rattle.record.specs.Answer.{labelsAnswer, recordAfter};
 ghost use Rattle.record.specs.Read.{labelsOf};
 ghost use Rattle.drawing.specs.Corners.{leftsOf, bottomsOf, rightsOf, topsOf};
+ghost use Rattle.rooms.specs.LabelList.{recordOfRooms};
 ghost use Rattle.answers.specs.Answer.{recordAnswer, written, questionAnswer};
-ghost use Rattle.nenturxo.specs.Code.{refusalCode, labelsCode, recordCode, relationNumber, relatedNumber, questionCode};
+ghost use Rattle.plans.specs.Answer.{roomsAnswer, labelsOfRooms, positionsOfRooms, written as roomsWritten};
+ghost use Rattle.nenturxo.specs.Code.{refusalCode, roomsCode, AtMost97, labelsCode, recordCode, relationNumber, relatedNumber, questionCode};
 use answers::QuestionAnswer;
 use answers::RecordAnswer;
 use drawing::Relation;
+use drawing::Room;
+use plans::RoomsAnswer;
 use record::LabelsAnswer;
 use record::Refusal;
 
@@ -19,6 +23,34 @@ fn refused(refusal: Refusal) -> i32
 {
     let number = refusal.number() as i32;
     -number
+}
+
+// The number of an answer of Rooms in, whose record is at most 97 bytes.
+fn rooms_code(answer: RoomsAnswer) -> i32
+    requires { ⌜ AtMost97 answer ⌝ }
+    ensures { λ r. ⌜ r ≡ roomsCode answer ⌝ }
+{
+    match answer {
+        RoomsAnswer::Wrote(size) => size as i32,
+        RoomsAnswer::Refused(refusal) => refused(refusal),
+    }
+}
+
+// Rooms in: the record's length, the record, and the label and the position of each room in list order from the front of the slices, or the refusal's number negated, and nothing written.
+#[no_mangle]
+pub extern "C" fn nenturxo_rooms_in(
+    rooms: &[Room],
+    record: &mut [u8],
+    labels: &mut [u8],
+    positions: &mut [u8],
+) -> i32
+    ensures answer { λ r. ⌜ r ≡ roomsCode (roomsAnswer (now (rooms .entry)) (length (now («record» .entry))) (length (now (labels .entry))) (length (now (positions .entry)))) ⌝ }
+    ensures bytes { λ r. ⌜ now («record» .exit) ≡ roomsWritten (roomsAnswer (now (rooms .entry)) (length (now («record» .entry))) (length (now (labels .entry))) (length (now (positions .entry)))) (recordOfRooms (now (rooms .entry))) (now («record» .entry)) ⌝ }
+    ensures each { λ r. ⌜ now (labels .exit) ≡ roomsWritten (roomsAnswer (now (rooms .entry)) (length (now («record» .entry))) (length (now (labels .entry))) (length (now (positions .entry)))) (labelsOfRooms (now (rooms .entry))) (now (labels .entry)) ⌝ }
+    ensures places { λ r. ⌜ now (positions .exit) ≡ roomsWritten (roomsAnswer (now (rooms .entry)) (length (now («record» .entry))) (length (now (labels .entry))) (length (now (positions .entry)))) (positionsOfRooms (now (rooms .entry))) (now (positions .entry)) ⌝ }
+{
+    let answer = plans::rooms_in(rooms, record, labels, positions);
+    rooms_code(answer)
 }
 
 // Labels in: the record's length, written from the front of `record`, or the refusal's number negated, and nothing written.

@@ -1,3 +1,4 @@
 -- Laws that the functions' proofs cite.
 pub mod Gathered
+pub mod Lent
 pub mod Written
