@@ -1,15 +1,17 @@
 -- The lines of positions, put one after the other.
-use mathlib.Core.List.{List}
-use mathlib.Core.Path.{_≡_, sym, ap}
-use Prim.Native.Nat.{ℕ, suc, _+_}
+use mathlib.Core.List.{List, _++_}
+use mathlib.Core.Path.{_≡_, refl, sym, ap}
+use Prim.Native.Nat.{ℕ, zero, suc, _+_, _<_}
+use native.Mathlib.Omega.{arith}
 use native.Mathlib.Numerals.{add-one}
 use lib.ListN.{getD}
 use Rattle.record.specs.Labels.{labelAt}
 use Rattle.drawing.specs.declared.Room.{Room}
 use Rattle.drawing.specs.Corners.{roomIn}
-use Rattle.planlist.specs.Put.{Put}
-use Rattle.planlist.specs.Text.{lineOf, linesOf}
-use Rattle.planlist.proofs.Puts.{put-none, put-more, put-as}
+use Rattle.text.specs.Put.{Put}
+use Rattle.text.specs.Viewed.{Local}
+use Rattle.planlist.specs.Text.{headOf, lineOf, linesOf, listing}
+use Rattle.text.specs.Puts.{put-none, put-more, put-as}
 
 -- before the first turn
 pub no-lines : (text : List ℕ) (at : ℕ) (label : ℕ → ℕ) (room : ℕ → Room) → Put text at (linesOf label room 0) text at
@@ -32,3 +34,13 @@ module _ (labels left bottom right top : List ℕ) (i : ℕ) where
 -- after the last turn
 pub all-lines : {before after : List ℕ} {start at i n : ℕ} (label : ℕ → ℕ) (room : ℕ → Room) → i ≡ n → Put before start (linesOf label room i) after at → Put before start (linesOf label room n) after at
 all-lines label room e p = put-as (ap (λ (k : ℕ). linesOf label room k) e) p
+
+-- lines of equal labels and rooms are equal
+lines-same : (label other : ℕ → ℕ) (room another : ℕ → Room) (n : ℕ) → ((k : ℕ) → k < n → label (suc k) ≡ other (suc k)) → ((k : ℕ) → k < n → room (suc k) ≡ another (suc k))
+    → linesOf label room n ≡ linesOf other another n
+unfolding linesOf
+lines-same label other room another zero h g = refl
+lines-same label other room another (suc n) h g = λ i. lines-same label other room another n (λ k l. h k (omega arith)) (λ k l. g k (omega arith)) i ++ lineOf (suc n) (h n (omega arith) i) (g n (omega arith) i)
+
+pub listing-local : Local listing
+listing-local label other room another n h g = ap (λ (l : List ℕ). headOf n ++ l) (lines-same label other room another n h g)

@@ -1,14 +1,13 @@
 // Lists the rooms of one record: reads it from standard input and prints its rooms by position, or why it is refused.
 // The whole text is put into one array and then written at once: `put_text` states that it is the sheet's, byte for byte.
-ghost use mathlib.Core.List.{[], _∷_};
 ghost use mathlib.Core.Path.{_≡_};
 ghost use Prim.Native.Nat.{_+_, _*_, _≤_, _<_};
 ghost use lib.ListN.{length, take};
 ghost use Rattle.io.specs.Counts.{Counts};
 ghost use Rattle.record.specs.Labels.{labelAt};
 ghost use Rattle.drawing.specs.Corners.{roomIn};
-ghost use Rattle.planlist.specs.Put.{Put};
-ghost use Rattle.planlist.specs.Text.{decimal, field, lineOf, wordLine, linesOf, textOf};
+ghost use Rattle.text.specs.Put.{Put};
+ghost use Rattle.planlist.specs.Text.{lineOf, linesOf, textOf};
 use answers::RecordAnswer;
 use drawing::Room;
 use libc::STDIN_FILENO;
@@ -22,70 +21,17 @@ const INPUT: usize = 98;
 // Places for a header and 255 lines of six numbers, each of at most five digits and one byte more.
 const TEXT: usize = 9200;
 
-// Puts a byte after the text so far, which ends at `at`, and answers where the text then ends. So do all that follow.
-fn put_byte(text: &mut [u8], at: usize, byte: u8) -> usize
-    requires { ⌜ at < length (now text) ⌝ }
-    ensures { λ r. ⌜ Put (now (text .entry)) at (byte ∷ []) (now (text .exit)) r ⌝ }
-{
-    text[at] = byte;
-    at + 1
-}
-
-// Puts a word after the text so far.
-fn put_word(text: &mut [u8], at: usize, word: &[u8]) -> usize
-    requires { ⌜ at + length (now word) ≤ length (now text) ⌝ }
-    ensures { λ r. ⌜ Put (now (text .entry)) at (now (word .entry)) (now (text .exit)) r ⌝ }
-{
-    let mut i = 0;
-    while i < word.len() {
-        text[at + i] = word[i];
-        i += 1;
-    }
-    at + i
-}
-
-// Puts the digits of a number: those of its tenth, then the last one.
-fn put_number(text: &mut [u8], at: usize, number: u16) -> usize
-    requires { ⌜ at + length (decimal number) ≤ length (now text) ⌝ }
-    ensures { λ r. ⌜ Put (now (text .entry)) at (decimal number) (now (text .exit)) r ⌝ }
-{
-    if number < 10 {
-        return put_byte(text, at, b'0' + number as u8);
-    }
-    let at = put_number(text, at, number / 10);
-    put_byte(text, at, b'0' + (number % 10) as u8)
-}
-
-// Puts a number and the byte after it.
-fn put_field(text: &mut [u8], at: usize, number: u16, after: u8) -> usize
-    requires { ⌜ at + 6 ≤ length (now text) ⌝ }
-    ensures { λ r. ⌜ Put (now (text .entry)) at (field number after) (now (text .exit)) r × (r ≤ at + 6) ⌝ }
-{
-    let at = put_number(text, at, number);
-    put_byte(text, at, after)
-}
-
-// Puts the line of a word and a number from the front.
-fn put_word_line(text: &mut [u8], word: &[u8], number: u16) -> usize
-    requires { ⌜ length (now word) + 7 ≤ length (now text) ⌝ }
-    ensures { λ r. ⌜ Put (now (text .entry)) 0 (wordLine (now (word .entry)) number) (now (text .exit)) r × (r ≤ length (now (word .entry)) + 7) ⌝ }
-{
-    let at = put_word(text, 0, word);
-    let at = put_byte(text, at, b' ');
-    put_field(text, at, number, b'\n')
-}
-
 // Puts the line of a position.
 fn put_line(text: &mut [u8], at: usize, position: Position, label: Label, room: Room) -> usize
     requires { ⌜ at + 36 ≤ length (now text) ⌝ }
     ensures { λ r. ⌜ Put (now (text .entry)) at (lineOf (position .0) (label .0) room) (now (text .exit)) r × (r ≤ at + 36) ⌝ }
 {
-    let at = put_field(text, at, position.0 as u16, b' ');
-    let at = put_field(text, at, label.0 as u16, b' ');
-    let at = put_field(text, at, room.left, b' ');
-    let at = put_field(text, at, room.bottom, b' ');
-    let at = put_field(text, at, room.right, b' ');
-    put_field(text, at, room.top, b'\n')
+    let at = text::put_field(text, at, position.0 as u16, b' ');
+    let at = text::put_field(text, at, label.0 as u16, b' ');
+    let at = text::put_field(text, at, room.left, b' ');
+    let at = text::put_field(text, at, room.bottom, b' ');
+    let at = text::put_field(text, at, room.right, b' ');
+    text::put_field(text, at, room.top, b'\n')
 }
 
 // Puts the lines of the first `n` positions, whose labels and corners stand in lists by position.
@@ -137,9 +83,13 @@ fn put_text(record: &[u8], text: &mut [u8]) -> usize
         &mut right,
         &mut top,
     ) {
-        RecordAnswer::Refused(refusal) => put_word_line(text, b"refused", refusal.number() as u16),
+        RecordAnswer::Refused(refusal) => text::put_word_line(
+            text,
+            b"refused",
+            refusal.number() as u16,
+        ),
         RecordAnswer::Read(n) => {
-            let at = put_word_line(text, b"rooms", n as u16);
+            let at = text::put_word_line(text, b"rooms", n as u16);
             put_lines(text, at, n, &labels, &left, &bottom, &right, &top)
         }
     }

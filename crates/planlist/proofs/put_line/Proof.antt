@@ -1,7 +1,7 @@
 -- `planlist::put_line` meets its contract: six fields, one after the other.
 use native.Mathlib.Omega.{arith}
 use borrow.Author.Needs.{needs}
-use Rattle.planlist.proofs.Puts.{put-more}
+use Rattle.text.specs.Puts.{put-more}
 use Rattle.planlist.proofs.put_line.Statement.{statement}
 use Rattle.planlist.proofs.put_line.Tie as tie
 

@@ -4,7 +4,7 @@ use native.Mathlib.Omega.{arith}
 use borrow.Author.Needs.{needs}
 use Rattle.record.specs.Labels.{labelAt}
 use Rattle.drawing.specs.Corners.{roomIn}
-use Rattle.planlist.specs.Put.{Put}
+use Rattle.text.specs.Put.{Put}
 use Rattle.planlist.specs.Text.{linesOf}
 use Rattle.planlist.proofs.Lines.{no-lines, one-more, all-lines}
 use Rattle.planlist.proofs.put_lines.Statement.{statement}

@@ -10,16 +10,17 @@ use Rattle.record.specs.Labels.{labelAt}
 use Rattle.answers.specs.Answer.{Few}
 use Rattle.answers.specs.declared.RecordAnswer.{RecordAnswer}
 use Rattle.answers.specs.declared.RecordAnswer.the-variants.{Read}
-use Rattle.planlist.specs.Text.{linesOf}
-use Rattle.planlist.proofs.Puts.{put-more, put-counts}
-use Rattle.planlist.proofs.Listed.{Written, refused-text, read-text}
+use Rattle.planlist.specs.Text.{linesOf, listing}
+use Rattle.planlist.proofs.Lines.{listing-local}
+use Rattle.text.specs.Puts.{put-more, put-counts}
+use Rattle.text.specs.Viewed.{Written, refused-text, read-text}
 use Rattle.planlist.proofs.put_text.Statement.{statement}
 use Rattle.planlist.proofs.put_text.Tie as tie
 use Rattle.planlist.proofs.put_text.Reads as reads
 use Rattle.planlist.proofs.put_text.Lts as lts
 use Rattle.answers.proofs.record_in.Reads as record-in-reads
 use Rattle.planlist.proofs.put_lines.Reads as put-lines-reads
-use Rattle.planlist.proofs.put_word_line.Reads as put-word-line-reads
+use Rattle.text.proofs.put_word_line.Reads as put-word-line-reads
 use Rattle.record.proofs.Refusal.number.Reads as number-reads
 
 -- a record is lent as bytes
@@ -116,7 +117,7 @@ returns c =
     let p = c .before .before .put-word-line .ensures in
     let r = c .before .before .before .before .before .before .before .before .before .before .before .before .before .before .record-in in
     let s = c .before .before .before .before .before .before .before .before .before .before .before .before .before .before .before .before .before .before .before .before .before .before in (
-      p .0 .front ∙ refused-text (s .args .«record» .now) (kind-byte (c .before .before .before .before .before .before .before .before .before .before .before .before .before .before .before .before .before .before .before .before .before)) (r .result) (c .before .before .before .before .before .before .before .refusal .given .0 .0) (c .before .before .before .number .result) (c .before .before .before .before .before .before .before .refusal .given .1) (r .ensures .0 .0) (c .before .before .before .number .ensures),
+      p .0 .front ∙ refused-text listing (s .args .«record» .now) (kind-byte (c .before .before .before .before .before .before .before .before .before .before .before .before .before .before .before .before .before .before .before .before .before)) (r .result) (c .before .before .before .before .before .before .before .refusal .given .0 .0) (c .before .before .before .number .result) (c .before .before .before .before .before .before .before .refusal .given .1) (r .ensures .0 .0) (c .before .before .before .number .ensures),
       put-counts (omega (arith, s .pre, p .1)) (p .0),
     )
 
@@ -132,7 +133,7 @@ returns-2 c =
     let small = few (c .before .before .before .before .before .before .before .before .before .before .before .before .before .before) in
     let lines = linesOf (labelAt (last .0)) (roomIn (last .1 .0) (last .1 .1 .0) (last .1 .1 .1 .0) (last .1 .1 .1 .1 .0)) (c .before .before .before .before .before .before .before .before .before .before .before .before .before .before .before .n .given .0 .0) in
     let all = put-more {rest = lines} (p .0) (q .0) in (
-      all .front ∙ read-text (s .args .«record» .now) (kind-byte (c .before .before .before .before .before .before .before .before .before .before .before .before .before .before .before .before .before .before .before .before .before .before .before .before .before .before .before .before .before)) (last .0) (last .1 .0) (last .1 .1 .0) (last .1 .1 .1 .0) (last .1 .1 .1 .1 .0) (c .before .before .before .before .before .before .before .before .before .before .before .before .before .before .before .n .given .0 .0) (got (c .before .before .before .before .before .before .before .before .before .before .before .before .before .before)),
+      all .front ∙ read-text listing (s .args .«record» .now) (kind-byte (c .before .before .before .before .before .before .before .before .before .before .before .before .before .before .before .before .before .before .before .before .before .before .before .before .before .before .before .before .before)) listing-local (last .0) (last .1 .0) (last .1 .1 .0) (last .1 .1 .1 .0) (last .1 .1 .1 .1 .0) (c .before .before .before .before .before .before .before .before .before .before .before .before .before .before .before .n .given .0 .0) (got (c .before .before .before .before .before .before .before .before .before .before .before .before .before .before)),
       put-counts (omega (arith, s .pre, p .1, q .1)) all,
     )
 

@@ -1,10 +1,10 @@
--- `planlist::put_field` meets its contract: a number has at most five digits.
+-- `text::put_field` meets its contract: a number has at most five digits.
 use native.Mathlib.Omega.{arith}
 use borrow.Author.Needs.{needs}
-use Rattle.planlist.proofs.Puts.{put-more}
-use Rattle.planlist.proofs.Digits.{decimal-short}
-use Rattle.planlist.proofs.put_field.Statement.{statement}
-use Rattle.planlist.proofs.put_field.Tie as tie
+use Rattle.text.specs.Puts.{put-more}
+use Rattle.text.specs.Digits.{decimal-short}
+use Rattle.text.proofs.put_field.Statement.{statement}
+use Rattle.text.proofs.put_field.Tie as tie
 
 put-number-requires : tie.Need-put-number-requires
 put-number-requires c κs = let s = c .before .before in omega (arith, s .pre, decimal-short (s .args .number) (search needs))

@@ -6,7 +6,7 @@ use Prim.Native.Nat.{ℕ, zero, suc, _+_, _*_, _/_, _%_, _^_, _≤_, _<_}
 use native.Mathlib.Decide.{decLt}
 use native.Mathlib.Omega.{arith}
 use lib.ListN.{length, length-append}
-use Rattle.planlist.specs.Text.{digit, digitsIn, decimal}
+use Rattle.text.specs.Decimal.{digit, digitsIn, decimal}
 
 -- as many turns as the number says are enough
 turns-same : (one other number : ℕ) → number ≤ one → number ≤ other → digitsIn one number ≡ digitsIn other number

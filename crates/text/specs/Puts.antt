@@ -7,7 +7,7 @@ use native.Mathlib.Numerals.{add-one}
 use lib.ListN.{length, take, set, length-set, length-append, length-take}
 use lib.Seq.{take-suc-set, paste, take-paste, length-paste, take-length}
 use Rattle.io.specs.Counts.{Counts}
-use Rattle.planlist.specs.Put.{Put}
+use Rattle.text.specs.Put.{Put}
 
 -- nothing is put
 pub put-none : (text : List ℕ) (at : ℕ) → Put text at [] text at

@@ -1,8 +1,8 @@
--- `planlist::put_byte` meets its contract.
+-- `text::put_byte` meets its contract.
 use borrow.Author.Needs.{needs}
-use Rattle.planlist.proofs.Puts.{put-one}
-use Rattle.planlist.proofs.put_byte.Statement.{statement}
-use Rattle.planlist.proofs.put_byte.Tie as tie
+use Rattle.text.specs.Puts.{put-one}
+use Rattle.text.proofs.put_byte.Statement.{statement}
+use Rattle.text.proofs.put_byte.Tie as tie
 
 slice-write-text : tie.Need-slice-write-text
 slice-write-text c = search needs

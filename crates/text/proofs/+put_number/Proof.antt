@@ -3,17 +3,17 @@ use mathlib.Core.Path.{sym, ap}
 use native.Mathlib.Omega.{arith}
 use lib.ListN.{length}
 use borrow.Author.Needs.{needs}
-use Rattle.planlist.proofs.Puts.{put-as, put-more}
-use Rattle.planlist.proofs.Digits.{decimal-one, decimal-more, length-more}
+use Rattle.text.specs.Puts.{put-as, put-more}
+use Rattle.text.specs.Digits.{decimal-one, decimal-more, length-more}
 use Prim.Native.Nat.{ℕ, _<_}
 use borrow.Fn.Kinds.{In}
 use borrow.Fn.PlainCycle.{Measures, is, falls, and}
-use Rattle.planlist.proofs.put_number.Reads as put-number
-use Rattle.planlist.proofs.put_number.Kinds as put-number-kinds
-use Rattle.planlist.proofs.+put_number.Lts-put_number as put-number-lts
-use Rattle.planlist.proofs.put_byte.Reads as put-byte-reads
-use Rattle.planlist.proofs.+put_number.{statement}
-use Rattle.planlist.proofs.+put_number.Tie.{close}
+use Rattle.text.proofs.put_number.Reads as put-number
+use Rattle.text.proofs.put_number.Kinds as put-number-kinds
+use Rattle.text.proofs.+put_number.Lts-put_number as put-number-lts
+use Rattle.text.proofs.put_byte.Reads as put-byte-reads
+use Rattle.text.proofs.+put_number.{statement}
+use Rattle.text.proofs.+put_number.Tie.{close}
 
 abbrev μ-put-number : Measures 1 put-number-kinds.ps ℕ
 μ-put-number κs a = a .1 .1 .0

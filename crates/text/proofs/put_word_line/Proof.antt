@@ -1,9 +1,9 @@
--- `planlist::put_word_line` meets its contract.
+-- `text::put_word_line` meets its contract.
 use native.Mathlib.Omega.{arith}
 use borrow.Author.Needs.{needs}
-use Rattle.planlist.proofs.Puts.{put-more}
-use Rattle.planlist.proofs.put_word_line.Statement.{statement}
-use Rattle.planlist.proofs.put_word_line.Tie as tie
+use Rattle.text.specs.Puts.{put-more}
+use Rattle.text.proofs.put_word_line.Statement.{statement}
+use Rattle.text.proofs.put_word_line.Tie as tie
 
 put-word-requires : tie.Need-put-word-requires
 put-word-requires c κs = search needs

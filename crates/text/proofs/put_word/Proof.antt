@@ -1,4 +1,4 @@
--- `planlist::put_word` meets its contract: after i turns the first i bytes of the word are pasted into the text.
+-- `text::put_word` meets its contract: after i turns the first i bytes of the word are pasted into the text.
 use mathlib.Core.Path.{_≡_, refl}
 use Prim.Native.Nat.{_-_, _≤_}
 use native.Mathlib.Numerals.{add-one}
@@ -6,9 +6,9 @@ use native.Mathlib.Omega.{arith}
 use lib.ListN.{length, length-set}
 use lib.Seq.{paste, paste-zero, paste-suc}
 use borrow.Author.Needs.{needs}
-use Rattle.planlist.proofs.Puts.{put-pasted}
-use Rattle.planlist.proofs.put_word.Statement.{statement}
-use Rattle.planlist.proofs.put_word.Tie as tie
+use Rattle.text.specs.Puts.{put-pasted}
+use Rattle.text.proofs.put_word.Statement.{statement}
+use Rattle.text.proofs.put_word.Tie as tie
 
 abbrev Inv-loop : tie.InvT-loop
 Inv-loop text₀ at word i₀ text i = (i ≤ length word) × (text ≡ paste text₀ at word i) × (length text ≡ length text₀)

@@ -1,8 +1,8 @@
--- What Record in answers and writes is what the text of a record lists.
+-- What Record in answers and writes is what a program prints of a record, in any view.
 use mathlib.Core.List.{List, _++_}
 use mathlib.Core.Logic.{inl, inr, if-neg}
-use mathlib.Core.Path.{_≡_, refl, sym, ap, subst, _∙_}
-use Prim.Native.Nat.{ℕ, zero, suc, _≤_, _<_}
+use mathlib.Core.Path.{_≡_, sym, ap, subst, _∙_}
+use Prim.Native.Nat.{ℕ, suc, _≤_, _<_}
 use native.Mathlib.Omega.{arith}
 use lib.ListN.{length, getD, drop, List·getD-append}
 use Rattle.finite.specs.Table.{table, length-table, getD-table}
@@ -19,12 +19,17 @@ use Rattle.drawing.specs.declared.Room.{Room}
 use Rattle.answers.specs.Answer.{Short, dec-short, recordAnswer, written}
 use Rattle.answers.specs.declared.RecordAnswer.{RecordAnswer}
 use Rattle.answers.specs.declared.RecordAnswer.the-variants.{Read, Refused}
-use Rattle.planlist.specs.Text.{refusedLine, headOf, lineOf, linesOf, listing, textOf}
+use Rattle.text.specs.View.{View, viewOf, printed, refusedLine}
+
+-- a view looks at positions 1 to n alone
+abbrev pub Local : View → Type 0
+Local view = (label other : ℕ → ℕ) (room another : ℕ → Room) (n : ℕ) → ((k : ℕ) → k < n → label (suc k) ≡ other (suc k)) → ((k : ℕ) → k < n → room (suc k) ≡ another (suc k))
+    → view label room n ≡ view other another n
 
 -- what is printed for an answer of Record in, with the labels that it gave
-abbrev textFor : RecordAnswer → (labels : List ℕ) → List ℕ
-textFor (Read n) labels = headOf n ++ linesOf (labelAt labels) (roomAt (labelAt labels) n) n
-textFor (Refused refusal) labels = refusedLine (numberOf refusal)
+abbrev textFor : View → RecordAnswer → (labels : List ℕ) → List ℕ
+textFor view (Read n) labels = view (labelAt labels) (roomAt (labelAt labels) n) n
+textFor view (Refused refusal) labels = refusedLine (numberOf refusal)
 
 abbrev Is-read : RecordAnswer → Type 0
 Is-read (Read n) = Unit
@@ -48,13 +53,6 @@ never e = absurd (subst Is-read e tt)
 length-labels : (bytes : List ℕ) → length (labelsOf bytes) ≡ kindOf bytes
 unfolding labelsOf
 length-labels bytes = length-decode (tripleIn (bodyOf bytes)) (kindOf bytes)
-
--- ---- lines of equal labels and rooms are equal
-lines-same : (label other : ℕ → ℕ) (room another : ℕ → Room) (n : ℕ) → ((k : ℕ) → k < n → label (suc k) ≡ other (suc k)) → ((k : ℕ) → k < n → room (suc k) ≡ another (suc k))
-    → linesOf label room n ≡ linesOf other another n
-unfolding linesOf
-lines-same label other room another zero h g = refl
-lines-same label other room another (suc n) h g = λ i. lines-same label other room another n (λ k l. h k (omega arith)) (λ k l. g k (omega arith)) i ++ lineOf (suc n) (h n (omega arith) i) (g n (omega arith) i)
 
 -- ---- the output slices after the answer, where each held `before`
 pub record Written (bytes : List ℕ) (answer : RecordAnswer) (labels left bottom right top : List ℕ) : Type 0 where
@@ -88,20 +86,20 @@ module _ (labels : List ℕ) {n : ℕ} (size : length labels ≡ n) (k : ℕ) (i
   }
 
 -- ---- the text
-module _ (bytes : List ℕ) (byte : kindOf bytes ≤ 255) where
+module _ (view : View) (bytes : List ℕ) (byte : kindOf bytes ≤ 255) where
   answer-checked : recordAnswer bytes 255 255 255 255 255 ≡ checked Refused bytes (Read (kindOf bytes))
   answer-checked = ap (λ (good : RecordAnswer). checked Refused bytes good) (if-neg (dec-short (kindOf bytes) 255 255 255 255 255) (enough (kindOf bytes) byte) _ _)
 
-  listed : textFor (Read (kindOf bytes)) (labelsOf bytes) ≡ listing (labelsOf bytes)
-  listed = ap (λ (n : ℕ). textFor (Read n) (labelsOf bytes)) (sym (length-labels bytes))
+  listed : textFor view (Read (kindOf bytes)) (labelsOf bytes) ≡ viewOf view (labelsOf bytes)
+  listed = ap (λ (n : ℕ). textFor view (Read n) (labelsOf bytes)) (sym (length-labels bytes))
 
   -- the text for the answer is the record's
-  text-answer : textFor (recordAnswer bytes 255 255 255 255 255) (labelsOf bytes) ≡ textOf bytes
-  text-answer = ap (λ (answer : RecordAnswer). textFor answer (labelsOf bytes)) answer-checked ∙ go (sorted bytes)
+  text-answer : textFor view (recordAnswer bytes 255 255 255 255 255) (labelsOf bytes) ≡ printed view bytes
+  text-answer = ap (λ (answer : RecordAnswer). textFor view answer (labelsOf bytes)) answer-checked ∙ go (sorted bytes)
     where
-      go : Sorted bytes → textFor (checked Refused bytes (Read (kindOf bytes))) (labelsOf bytes) ≡ textOf bytes
-      go (refused cause) = ap (λ (answer : RecordAnswer). textFor answer (labelsOf bytes)) (sym (refused-checked Refused bytes (Read (kindOf bytes)) cause)) ∙ refused-checked (λ refusal. refusedLine (numberOf refusal)) bytes (listing (labelsOf bytes)) cause
-      go (read all) = ap (λ (answer : RecordAnswer). textFor answer (labelsOf bytes)) (sym (readable-checked Refused bytes (Read (kindOf bytes)) all)) ∙ listed ∙ readable-checked (λ refusal. refusedLine (numberOf refusal)) bytes (listing (labelsOf bytes)) all
+      go : Sorted bytes → textFor view (checked Refused bytes (Read (kindOf bytes))) (labelsOf bytes) ≡ printed view bytes
+      go (refused cause) = ap (λ (answer : RecordAnswer). textFor view answer (labelsOf bytes)) (sym (refused-checked Refused bytes (Read (kindOf bytes)) cause)) ∙ refused-checked (λ refusal. refusedLine (numberOf refusal)) bytes (viewOf view (labelsOf bytes)) cause
+      go (read all) = ap (λ (answer : RecordAnswer). textFor view answer (labelsOf bytes)) (sym (readable-checked Refused bytes (Read (kindOf bytes)) all)) ∙ listed ∙ readable-checked (λ refusal. refusedLine (numberOf refusal)) bytes (viewOf view (labelsOf bytes)) all
 
   kind-read : (n : ℕ) → Read n ≡ recordAnswer bytes 255 255 255 255 255 → n ≡ kindOf bytes
   kind-read n e = go (sorted bytes)
@@ -110,16 +108,15 @@ module _ (bytes : List ℕ) (byte : kindOf bytes ≤ 255) where
       go (refused cause) = never (e ∙ answer-checked ∙ sym (refused-checked Refused bytes _ cause))
       go (read all) = ap countOf (e ∙ answer-checked ∙ sym (readable-checked Refused bytes _ all))
 
-  pub refused-text : (answer : RecordAnswer) (refusal : Refusal) (number : ℕ) → answer ≡ Refused refusal → answer ≡ recordAnswer bytes 255 255 255 255 255 → number ≡ numberOf refusal → refusedLine number ≡ textOf bytes
-  refused-text answer refusal number is e m = ap refusedLine m ∙ ap (λ (r : RecordAnswer). textFor r (labelsOf bytes)) (sym is ∙ e) ∙ text-answer
+  pub refused-text : (answer : RecordAnswer) (refusal : Refusal) (number : ℕ) → answer ≡ Refused refusal → answer ≡ recordAnswer bytes 255 255 255 255 255 → number ≡ numberOf refusal → refusedLine number ≡ printed view bytes
+  refused-text answer refusal number is e m = ap refusedLine m ∙ ap (λ (r : RecordAnswer). textFor view r (labelsOf bytes)) (sym is ∙ e) ∙ text-answer
 
-  pub read-text : (labels left bottom right top : List ℕ) (n : ℕ) → Written bytes (Read n) labels left bottom right top → headOf n ++ linesOf (labelAt labels) (roomIn left bottom right top) n ≡ textOf bytes
-  read-text labels left bottom right top n w =
-      ap (λ (l : List ℕ). headOf n ++ l)
-      (lines-same (labelAt labels) (labelAt (labelsOf bytes)) (roomIn left bottom right top) (roomAt (labelAt (labelsOf bytes)) n) n
+  pub read-text : Local view → (labels left bottom right top : List ℕ) (n : ℕ) → Written bytes (Read n) labels left bottom right top → view (labelAt labels) (roomIn left bottom right top) n ≡ printed view bytes
+  read-text here labels left bottom right top n w =
+      here (labelAt labels) (labelAt (labelsOf bytes)) (roomIn left bottom right top) (roomAt (labelAt (labelsOf bytes)) n) n
       (λ k h. front-label (labelsOf bytes) size k h (drop n (w .before)) (w .list))
-      (λ k h. front-room (labelsOf bytes) size k h (drop n (w .before)) (drop n (w .before)) (drop n (w .before)) (drop n (w .before)) (w .lefts) (w .bottoms) (w .rights) (w .tops)))
-      ∙ ap (λ (r : RecordAnswer). textFor r (labelsOf bytes)) (w .answered) ∙ text-answer
+      (λ k h. front-room (labelsOf bytes) size k h (drop n (w .before)) (drop n (w .before)) (drop n (w .before)) (drop n (w .before)) (w .lefts) (w .bottoms) (w .rights) (w .tops))
+      ∙ ap (λ (r : RecordAnswer). textFor view r (labelsOf bytes)) (w .answered) ∙ text-answer
     where
       size : length (labelsOf bytes) ≡ n
       size = length-labels bytes ∙ sym (kind-read n (w .answered))

@@ -3,8 +3,6 @@ use mathlib.Core.List.{List, _++_}
 use mathlib.Core.Path.{_≡_}
 use Prim.Native.Nat.{ℕ, _+_}
 use lib.ListN.{length, take}
-use Rattle.record.specs.Labels.{labelAt}
-use Rattle.drawing.specs.declared.Room.{Room}
 
 -- a store held a text that ended at `at`: now the part follows it, and the text ends at `end`
 pub record Put (before : List ℕ) (at : ℕ) (part after : List ℕ) (end : ℕ) : Type 0 where
