@@ -1,0 +1,231 @@
+/* Runs the C interface as its users do: the sheet's worked plans, every
+ * refusal, and what is written when. It compiles as C and as C++. */
+#include "nenturxo.h"
+
+#include <stdio.h>
+#include <string.h>
+
+static int checks = 0;
+static int failures = 0;
+
+/* Every check is counted; one that fails says where it stands. */
+#define CHECK(fact)                                                            \
+    do {                                                                       \
+        checks++;                                                              \
+        if (!(fact)) {                                                         \
+            failures++;                                                        \
+            fprintf(stderr, "%s:%d: not so: %s\n", __FILE__, __LINE__, #fact); \
+        }                                                                      \
+    } while (0)
+
+#define COUNT(array) (sizeof(array) / sizeof *(array))
+
+/* What output slices hold before a call. */
+enum { UNTOUCHED = 0xA5 };
+
+/* An output slice for calls that are refused: it stays all 0. */
+static uint8_t never_written[NENTURXO_RECORD_CAPACITY];
+
+static int all_untouched(const void *first, size_t bytes) {
+    const unsigned char *byte = (const unsigned char *)first;
+    size_t i;
+    for (i = 0; i < bytes; i++) {
+        if (byte[i] != UNTOUCHED) {
+            return 0;
+        }
+    }
+    return 1;
+}
+
+static int sum(const uint8_t *bytes, size_t n) {
+    int total = 0;
+    while (n > 0) {
+        total += bytes[--n];
+    }
+    return total;
+}
+
+/* ---- Labels in */
+
+static int32_t labels_in(const uint8_t *labels, size_t n, const uint8_t *expected, size_t length) {
+    uint8_t record[NENTURXO_RECORD_CAPACITY];
+    int32_t code;
+    memset(record, UNTOUCHED, sizeof record);
+    code = nenturxo_labels_in(labels, n, record, sizeof record);
+    CHECK(memcmp(record, expected, length) == 0);
+    CHECK(all_untouched(record + length, sizeof record - length));
+    return code;
+}
+
+/* The labels have the record that follows them, and one byte less is too short. */
+#define LABELS_GIVE(labels, ...)                                                            \
+    do {                                                                                    \
+        const uint8_t expected[] = {__VA_ARGS__};                                           \
+        CHECK(labels_in(labels, COUNT(labels), expected, COUNT(expected)) ==                \
+              (int32_t)COUNT(expected));                                                    \
+        CHECK(nenturxo_labels_in(labels, COUNT(labels), never_written, COUNT(expected) - 1) \
+              == -NENTURXO_SLICE_SHORT);                                                    \
+    } while (0)
+
+static void test_labels_in(void) {
+    const uint8_t one[] = {1}, rising[] = {1, 2}, falling[] = {2, 1}, five[] = {4, 1, 3, 5, 2};
+    const uint8_t seven[] = {2, 7, 3, 1, 5, 6, 4};
+    const uint8_t outside[] = {1, 3}, twice[] = {1, 1}, barred[] = {2, 4, 1, 3};
+    uint8_t many[256];
+    uint8_t record[NENTURXO_RECORD_CAPACITY];
+    size_t i;
+
+    LABELS_GIVE(one, 0x01);
+    LABELS_GIVE(rising, 0x02, 0x40);
+    LABELS_GIVE(falling, 0x02, 0xA0);
+    LABELS_GIVE(five, 0x05, 0x31, 0x70);
+    LABELS_GIVE(seven, 0x07, 0x0E, 0x8D, 0xC0);
+
+    CHECK(labels_in(one, 0, never_written, 0) == -NENTURXO_LIST_LENGTH);
+    CHECK(labels_in(outside, 2, never_written, 0) == -NENTURXO_LABEL_OUTSIDE);
+    CHECK(labels_in(twice, 2, never_written, 0) == -NENTURXO_LABEL_TWICE);
+    CHECK(labels_in(barred, 4, never_written, 0) == -NENTURXO_BARRED_PATTERN);
+
+    for (i = 0; i < 256; i++) {
+        many[i] = (uint8_t)(i + 1);
+    }
+    CHECK(nenturxo_labels_in(many, 255, record, sizeof record) == NENTURXO_RECORD_CAPACITY);
+    CHECK(labels_in(many, 256, never_written, 0) == -NENTURXO_LIST_LENGTH);
+}
+
+/* ---- Rooms in */
+
+typedef struct {
+    uint8_t record[NENTURXO_RECORD_CAPACITY];
+    uint8_t labels[NENTURXO_ROOMS_CAPACITY];
+    uint8_t positions[NENTURXO_ROOMS_CAPACITY];
+} rooms_out;
+
+static int32_t rooms_in(const nenturxo_room *rooms, size_t n, rooms_out *out) {
+    memset(out, UNTOUCHED, sizeof *out);
+    return nenturxo_rooms_in(rooms, n, out->record, sizeof out->record, out->labels,
+                             sizeof out->labels, out->positions, sizeof out->positions);
+}
+
+static void refuses_rooms(const nenturxo_room *rooms, size_t n, int refusal) {
+    rooms_out out;
+    CHECK(rooms_in(rooms, n, &out) == -refusal);
+    CHECK(all_untouched(&out, sizeof out));
+}
+
+static void test_rooms_in(void) {
+    const nenturxo_room beside[] = {{1, 0, 2, 1}, {0, 0, 1, 1}};
+    const nenturxo_room five[] = {
+        {2, 4, 5, 5}, {0, 0, 3, 1}, {3, 0, 5, 4}, {0, 1, 2, 5}, {2, 1, 3, 4}};
+    const nenturxo_room empty[] = {{0, 0, 1, 1}, {1, 0, 1, 1}};
+    const nenturxo_room shared[] = {{0, 0, 2, 2}, {1, 1, 3, 3}};
+    const nenturxo_room apart[] = {{0, 0, 1, 1}, {2, 0, 3, 1}};
+    const nenturxo_room four[] = {{0, 0, 1, 1}, {1, 0, 2, 1}, {0, 1, 1, 2}, {1, 1, 2, 2}};
+    const uint8_t two_labels[] = {2, 1}, two_record[] = {0x02, 0x40};
+    const uint8_t record[] = {0x05, 0x31, 0x70};
+    const uint8_t labels[] = {2, 4, 5, 1, 3}, positions[] = {5, 1, 4, 2, 3};
+    rooms_out out;
+
+    CHECK(rooms_in(beside, 2, &out) == 2);
+    CHECK(memcmp(out.record, two_record, 2) == 0);
+    CHECK(memcmp(out.labels, two_labels, 2) == 0);
+    CHECK(memcmp(out.positions, two_labels, 2) == 0);
+
+    CHECK(rooms_in(five, 5, &out) == 3);
+    CHECK(memcmp(out.record, record, 3) == 0);
+    CHECK(memcmp(out.labels, labels, 5) == 0);
+    CHECK(memcmp(out.positions, positions, 5) == 0);
+    CHECK(all_untouched(out.record + 3, sizeof out.record - 3));
+    CHECK(all_untouched(out.labels + 5, sizeof out.labels - 5));
+    CHECK(all_untouched(out.positions + 5, sizeof out.positions - 5));
+
+    refuses_rooms(five, 0, NENTURXO_LIST_LENGTH);
+    refuses_rooms(empty, 2, NENTURXO_EMPTY_ROOM);
+    refuses_rooms(shared, 2, NENTURXO_SHARED_SQUARE);
+    refuses_rooms(apart, 2, NENTURXO_OPEN_SQUARE);
+    refuses_rooms(four, 4, NENTURXO_FOUR_ROOMS_MEET);
+
+    CHECK(nenturxo_rooms_in(five, 5, out.record, 2, out.labels, 5, out.positions, 5) ==
+          -NENTURXO_SLICE_SHORT);
+    CHECK(nenturxo_rooms_in(five, 5, out.record, 3, out.labels, 4, out.positions, 5) ==
+          -NENTURXO_SLICE_SHORT);
+    CHECK(nenturxo_rooms_in(five, 5, out.record, 3, out.labels, 5, out.positions, 4) ==
+          -NENTURXO_SLICE_SHORT);
+    CHECK(nenturxo_rooms_in(five, 5, out.record, 3, out.labels, 5, out.positions, 5) == 3);
+}
+
+/* ---- Record in */
+
+typedef struct {
+    uint8_t labels[NENTURXO_ROOMS_CAPACITY];
+    uint16_t left[NENTURXO_ROOMS_CAPACITY];
+    uint16_t bottom[NENTURXO_ROOMS_CAPACITY];
+    uint16_t right[NENTURXO_ROOMS_CAPACITY];
+    uint16_t top[NENTURXO_ROOMS_CAPACITY];
+} record_out;
+
+/* With output slices of so many places. */
+static int32_t record_in(const uint8_t *record, size_t length, size_t places, record_out *out) {
+    memset(out, UNTOUCHED, sizeof *out);
+    return nenturxo_record_in(record, length, out->labels, places, out->left, places, out->bottom,
+                              places, out->right, places, out->top, places);
+}
+
+static void refuses_record(const uint8_t *record, size_t length, int refusal) {
+    record_out out;
+    CHECK(record_in(record, length, NENTURXO_ROOMS_CAPACITY, &out) == -refusal);
+    CHECK(all_untouched(&out, sizeof out));
+    CHECK(nenturxo_question(record, length, 1, 2) == -refusal);
+}
+
+static void test_record_in(void) {
+    const uint8_t record[] = {0x05, 0x31, 0x70}, labels[] = {4, 1, 3, 5, 2};
+    const uint16_t left[] = {0, 0, 2, 3, 2}, bottom[] = {0, 1, 1, 0, 4};
+    const uint16_t right[] = {3, 2, 3, 5, 5}, top[] = {1, 5, 4, 4, 5};
+    const uint8_t no_kind[] = {0x00}, body_short[] = {0x02}, after[] = {0x01, 0x00};
+    const uint8_t spare[] = {0x02, 0xC1}, missing[] = {0x02, 0x60}, left_over[] = {0x02, 0x00};
+    record_out out;
+
+    CHECK(record_in(record, 3, 6, &out) == 5);
+    CHECK(memcmp(out.labels, labels, sizeof labels) == 0);
+    CHECK(memcmp(out.left, left, sizeof left) == 0);
+    CHECK(memcmp(out.bottom, bottom, sizeof bottom) == 0);
+    CHECK(memcmp(out.right, right, sizeof right) == 0);
+    CHECK(memcmp(out.top, top, sizeof top) == 0);
+    CHECK(all_untouched(out.labels + 5, sizeof out.labels - 5));
+    CHECK(all_untouched(out.left + 5, sizeof out.left - sizeof left));
+    CHECK(all_untouched(out.top + 5, sizeof out.top - sizeof top));
+    CHECK(record_in(record, 3, 4, &out) == -NENTURXO_SLICE_SHORT);
+    CHECK(all_untouched(&out, sizeof out));
+
+    refuses_record(record, 0, NENTURXO_NO_KIND);
+    refuses_record(no_kind, 1, NENTURXO_NO_KIND);
+    refuses_record(body_short, 1, NENTURXO_BODY_SHORT);
+    refuses_record(after, 2, NENTURXO_BYTES_AFTER);
+    refuses_record(spare, 2, NENTURXO_SPARE_BIT);
+    refuses_record(missing, 2, NENTURXO_RUN_MISSING);
+    refuses_record(left_over, 2, NENTURXO_RUNS_LEFT);
+}
+
+/* ---- the question */
+
+static void test_question(void) {
+    const uint8_t record[] = {0x05, 0x31, 0x70};
+    CHECK(nenturxo_question(record, 3, 1, 4) == NENTURXO_LEFT + NENTURXO_TOUCH);
+    CHECK(nenturxo_question(record, 3, 4, 1) == NENTURXO_RIGHT + NENTURXO_TOUCH);
+    CHECK(nenturxo_question(record, 3, 5, 1) == NENTURXO_ABOVE);
+    CHECK(nenturxo_question(record, 3, 1, 5) == NENTURXO_BELOW);
+    CHECK(nenturxo_question(record, 3, 0, 1) == -NENTURXO_POSITION_OUTSIDE);
+    CHECK(nenturxo_question(record, 3, 1, 6) == -NENTURXO_POSITION_OUTSIDE);
+    CHECK(nenturxo_question(record, 3, 2, 2) == -NENTURXO_POSITIONS_EQUAL);
+}
+
+int main(void) {
+    test_labels_in();
+    test_rooms_in();
+    test_record_in();
+    test_question();
+    CHECK(sum(never_written, sizeof never_written) == 0);
+    printf("%d checks of the C interface, %d failed\n", checks, failures);
+    return failures == 0 ? 0 : 1;
+}

@@ -1,0 +1,128 @@
+/* Nenturxo: chip floorplans as short records, and back.
+ *
+ * A mosaic floorplan of n rooms, 1 to 255, has a record of 1 byte and then
+ * 3n - 3 bits, at most 97 bytes. Two floorplans have the same record exactly
+ * if they are equivalent.
+ *
+ * Link with libnenturxo.a, which `rt staticlib nenturxo` writes. Every call
+ * takes each slice as a pointer to its first element and its length in
+ * elements, and gives one number back: at least 0 the result, below 0 a
+ * refusal's number negated (enum nenturxo_refusal). A refused call writes
+ * nothing. A call that is not refused writes from the front of its output
+ * slices and leaves the rest of each as it was.
+ *
+ * No call allocates, keeps a pointer, or uses anything but its arguments, so
+ * calls may run at the same time in any number of threads. What the caller
+ * answers for: a pointer is good for as many elements as the length beside it
+ * says, and is not null, even where the length is 0; and no output slice
+ * overlaps another slice of the same call.
+ */
+#ifndef NENTURXO_H
+#define NENTURXO_H
+
+#include <stddef.h>
+#include <stdint.h>
+
+#ifdef __cplusplus
+extern "C" {
+#endif
+
+/* Output slices of these lengths are long enough for every floorplan. */
+#define NENTURXO_RECORD_CAPACITY 97
+#define NENTURXO_ROOMS_CAPACITY 255
+
+/* Why a call is refused. Where several hold, the call gives the first in the
+ * order that is named at it. */
+enum nenturxo_refusal {
+    NENTURXO_LIST_LENGTH = 1,      /* room or label list of 0 or over 255 entries */
+    NENTURXO_EMPTY_ROOM = 2,       /* room with right <= left or top <= bottom */
+    NENTURXO_SHARED_SQUARE = 3,    /* two rooms share a unit square */
+    NENTURXO_OPEN_SQUARE = 4,      /* a unit square of the outline is in no room */
+    NENTURXO_FOUR_ROOMS_MEET = 5,  /* four rooms meet at a point */
+    NENTURXO_LABEL_OUTSIDE = 6,    /* label outside 1 to n */
+    NENTURXO_LABEL_TWICE = 7,      /* label occurs twice */
+    NENTURXO_BARRED_PATTERN = 8,   /* barred pattern */
+    NENTURXO_NO_KIND = 9,          /* record empty or kind 0 */
+    NENTURXO_BODY_SHORT = 10,      /* body shorter than its kind fixes */
+    NENTURXO_BYTES_AFTER = 11,     /* bytes after the body */
+    NENTURXO_RUN_MISSING = 12,     /* a triple needs a run that is missing */
+    NENTURXO_RUNS_LEFT = 13,       /* more than one run at the end */
+    NENTURXO_SPARE_BIT = 14,       /* spare bit is 1 */
+    NENTURXO_SLICE_SHORT = 15,     /* an output slice too short */
+    NENTURXO_POSITION_OUTSIDE = 16,/* asked position outside 1 to n */
+    NENTURXO_POSITIONS_EQUAL = 17  /* the two asked positions equal */
+};
+
+/* How a room stands to another one: the two low bits of what
+ * nenturxo_question gives. */
+enum nenturxo_relation {
+    NENTURXO_LEFT = 0,
+    NENTURXO_RIGHT = 1,
+    NENTURXO_ABOVE = 2,
+    NENTURXO_BELOW = 3
+};
+
+/* What nenturxo_question adds where the two rooms touch. */
+#define NENTURXO_TOUCH 4
+
+/* A room. y grows upward. */
+typedef struct nenturxo_room {
+    uint16_t left;
+    uint16_t bottom;
+    uint16_t right;
+    uint16_t top;
+} nenturxo_room;
+
+/* Rooms in: a floorplan as a list of rooms becomes its record.
+ *
+ * rooms      the rooms, in any order; their outline may lie anywhere
+ * record     gets the record: 97 bytes are always enough
+ * labels     gets the label of each room, in list order
+ * positions  gets the position of each room, in list order
+ *
+ * Gives the record's length. Refusals, in this order: 1, 2, 3, 4, 5, 15. */
+int32_t nenturxo_rooms_in(const nenturxo_room *rooms, size_t n,
+                          uint8_t *record, size_t record_capacity,
+                          uint8_t *labels, size_t labels_capacity,
+                          uint8_t *positions, size_t positions_capacity);
+
+/* Labels in: the labels of a floorplan by position become its record.
+ *
+ * labels     the label of the room at each position, from position 1
+ * record     gets the record: 97 bytes are always enough
+ *
+ * Gives the record's length. Refusals, in this order: 1, 6, 7, 8, 15. */
+int32_t nenturxo_labels_in(const uint8_t *labels, size_t n,
+                           uint8_t *record, size_t capacity);
+
+/* Record in: a record becomes its labels and its grid drawing, whose outline
+ * is 0 to n both ways.
+ *
+ * record     the record's bytes, all of them and no more
+ * labels     gets the label of the room at each position, from position 1
+ * left, bottom, right, top
+ *            get where the four edges of that room are
+ *
+ * Gives the number of rooms, n: slices of 255 are always enough. Refusals, in
+ * this order: 9, 10, 11, 14, 12, 13, 15. */
+int32_t nenturxo_record_in(const uint8_t *record, size_t length,
+                           uint8_t *labels, size_t labels_capacity,
+                           uint16_t *left, size_t left_capacity,
+                           uint16_t *bottom, size_t bottom_capacity,
+                           uint16_t *right, size_t right_capacity,
+                           uint16_t *top, size_t top_capacity);
+
+/* The question: how the room at position `first` of a record stands to the
+ * one at position `second`, and whether the two touch, that is, share a piece
+ * of edge in the grid drawing.
+ *
+ * Gives an enum nenturxo_relation, and NENTURXO_TOUCH more where they touch.
+ * Refusals, in this order: 9, 10, 11, 14, 12, 13, 16, 17. */
+int32_t nenturxo_question(const uint8_t *record, size_t length,
+                          uint8_t first, uint8_t second);
+
+#ifdef __cplusplus
+}
+#endif
+
+#endif
