@@ -15,7 +15,8 @@ use Rattle.rooms.specs.Outline.{roomIn, SomeRoom, least, greatest, outline}
 use Rattle.rooms.specs.OutlineLaws.{least-le, greatest-ge, least-largest, greatest-smallest, rooms-within-outline}
 use Rattle.rooms.specs.Causes.{RoomSize, Overlap, Uncovered, FourMeet}
 use Rattle.rooms.specs.Corners.{cornersAt, length-rooms, room-of, OneLength}
-use Rattle.checks.specs.CornerLists.{roomsIn, SharesEarlier, StartsAt}
+use Rattle.starts.specs.Starts.{numberAt, Starts}
+use Rattle.checks.specs.CornerLists.{roomsIn, SharesEarlier}
 use Rattle.checks.specs.Area.{areaOf}
 use Rattle.checks.specs.Areas.{areasOf, uncovered→areas-less, areas-differ→uncovered}
 use Rattle.checks.specs.Diagonal.{Diagonal, wide-and-tall, diagonal→four-meet, no-diagonal→no-four-meet}
@@ -126,7 +127,7 @@ module _ (lefts bottoms rights tops : List ℕ) where
 
   -- ---- cause 5
   abbrev pub StartsAcross : ℕ → Type 0
-  StartsAcross i = StartsAt lefts bottoms (getD rights i 0) (getD tops i 0)
+  StartsAcross i = Starts (length lefts) (numberAt lefts) (numberAt bottoms) (getD rights i 0) (getD tops i 0)
 
   module _ (size : ¬ RoomSize rooms) (overlap : ¬ Overlap rooms) (uncovered : ¬ Uncovered rooms) where
     pub starts-across→four-meet : Some StartsAcross 0 n → FourMeet rooms

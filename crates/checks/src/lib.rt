@@ -7,7 +7,7 @@ ghost use Rattle.finite.specs.Sum.{sum};
 ghost use Rattle.rooms.specs.Outline.{least, greatest};
 ghost use Rattle.rooms.specs.Causes.{RoomSize, ShareSquare, Overlap, Uncovered, FourMeet};
 ghost use Rattle.rooms.specs.Corners.{cornersAt, OneLength};
-ghost use Rattle.checks.specs.CornerLists.{roomsIn, SharesEarlier, StartsAt};
+ghost use Rattle.checks.specs.CornerLists.{roomsIn, SharesEarlier};
 ghost use Rattle.checks.specs.Marks.{Marks};
 ghost use Rattle.checks.specs.Area.{areaOf};
 ghost use Rattle.checks.specs.Verdict.{VerdictOf};
@@ -198,32 +198,6 @@ fn uncovered(left: &[u16], bottom: &[u16], right: &[u16], top: &[u16]) -> bool
 
 // ---- cause 5
 
-// 1 where the corner (left, bottom) lies at the point (x, y), else 0.
-fn same_point(left: u16, bottom: u16, x: u16, y: u16) -> u16
-    ensures { λ r. ⌜ Marks r ((left ≡ x) × (bottom ≡ y)) ⌝ }
-{
-    if left == x {
-        if bottom == y {
-            return 1;
-        }
-    }
-    0
-}
-
-// Whether a room has its lower-left corner at the point (x, y). The loop is like that of `shares_earlier`.
-fn starts_at(left: &[u16], bottom: &[u16], x: u16, y: u16) -> bool
-    requires { ⌜ length (now bottom) ≡ length (now left) ⌝ }
-    ensures { λ r. ⌜ Tells r (StartsAt (now (left .entry)) (now (bottom .entry)) x y) ⌝ }
-{
-    let mut found: u16 = 0;
-    let mut i = 0;
-    while i < left.len() {
-        found = found | same_point(left[i], bottom[i], x, y);
-        i += 1;
-    }
-    found == 1
-}
-
 // Whether four rooms meet at a point. Where two rooms lie across a point, the one's upper-right corner and the other's lower-left corner there, the rooms
 // between them have a corner there too, since no unit square is left over.
 fn four_meet(left: &[u16], bottom: &[u16], right: &[u16], top: &[u16]) -> bool
@@ -231,11 +205,18 @@ fn four_meet(left: &[u16], bottom: &[u16], right: &[u16], top: &[u16]) -> bool
     requires { ⌜ ¬ RoomSize (roomsIn (now left) (now bottom) (now right) (now top)) ⌝ }
     requires { ⌜ ¬ Overlap (roomsIn (now left) (now bottom) (now right) (now top)) ⌝ }
     requires { ⌜ ¬ Uncovered (roomsIn (now left) (now bottom) (now right) (now top)) ⌝ }
+    requires { ⌜ length (now left) ≤ 255 ⌝ }
     ensures { λ r. ⌜ Tells r (FourMeet (roomsIn (now (left .entry)) (now (bottom .entry)) (now (right .entry)) (now (top .entry)))) ⌝ }
 {
+    let mut newest = [0u8; 256];
+    let mut older = [0u8; 255];
+    starts::list_starts(left, bottom, &mut newest, &mut older);
     let mut i = 0;
     while i < left.len() {
-        if starts_at(left, bottom, right[i], top[i]) {
+        let x = right[i];
+        let y = top[i];
+        let across = starts::look_up(left, bottom, &newest, &older, x, y);
+        if across < left.len() {
             return true;
         }
         i += 1;

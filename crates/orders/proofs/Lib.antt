@@ -1,6 +1,5 @@
 -- Laws that the functions' proofs cite.
 pub mod Extremes
-pub mod Listings
 pub mod Searching
 pub mod Ranking
 pub mod Listing

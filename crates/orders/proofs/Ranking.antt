@@ -7,7 +7,8 @@ use native.Mathlib.Omega.{arith}
 use lib.ListN.{length, getD, set}
 use lib.Seq.{getD-set-same, getD-set-other}
 use Rattle.finite.specs.Decide.{le-or-lt}
-use Rattle.orders.specs.Found.{Search, Next}
+use Rattle.starts.specs.Starts.{Search}
+use Rattle.orders.specs.Found.{Next}
 use Rattle.orders.specs.Ranked.{Ranked}
 
 pub record Kept (n : ℕ) (f : ℕ → ℕ) (ranks : List ℕ) (rank room : ℕ) : Type 0 where

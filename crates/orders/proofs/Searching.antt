@@ -5,7 +5,8 @@ use Prim.Native.Nat.{ℕ, _-_, _≤_, _<_}
 use native.Mathlib.Omega.{arith}
 use Rattle.finite.specs.Decide.{le-or-lt}
 use Rattle.orders.specs.AlongLine.{Reached, first, further, beside, across, reached→room}
-use Rattle.orders.specs.Found.{Search, Walked, Next, OneWay}
+use Rattle.starts.specs.Starts.{Search}
+use Rattle.orders.specs.Found.{Walked, Next, OneWay}
 
 pub search-done : {n : ℕ} {on from : ℕ → ℕ} {line point r : ℕ} → r ≤ n → (r < n → (on r ≡ line) × (from r ≡ point)) → ((i : ℕ) → i < r → (on i ≡ line) × (from i ≡ point) → ⊥)
     → Search n on from line point r

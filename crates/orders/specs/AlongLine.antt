@@ -3,11 +3,7 @@
 use mathlib.Core.Path.{_≡_}
 use mathlib.Core.Logic.{_⊎_}
 use Prim.Native.Nat.{ℕ, _<_, zero-le}
-use Rattle.finite.specs.Search.{Some}
-
--- some room starts on the line at the point
-abbrev pub Starts : (n : ℕ) (on from : ℕ → ℕ) (line point : ℕ) → Type 0
-Starts n on from line point = Some (λ c. (on c ≡ line) × (from c ≡ point)) 0 n
+use Rattle.starts.specs.Starts.{Starts}
 
 -- room c is reached from the point
 pub data Reached (n : ℕ) (on from to : ℕ → ℕ) (line point : ℕ) : ℕ → Type 0 where

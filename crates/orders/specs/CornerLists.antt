@@ -16,7 +16,8 @@ use Rattle.rooms.specs.Plan.{Floorplan}
 use Rattle.rooms.specs.PlanOf.{planOf, accepted→floorplan}
 use Rattle.rooms.specs.Demand3.{rooms-give-baxter}
 use Rattle.orders.specs.Ranked.{Ranked, positions-ranked, labels-ranked}
-use Rattle.orders.specs.Found.{numberAt, Sized}
+use Rattle.starts.specs.Starts.{numberAt}
+use Rattle.orders.specs.Found.{Sized}
 
 module _ (lefts bottoms rights tops : List ℕ) (lengths : OneLength lefts bottoms rights tops) where
   abbrev rooms : List Room

@@ -1,21 +1,11 @@
--- What the searches along a line give: a room's place, or the number of rooms where there is none.
-use mathlib.Core.Path.{_≡_}
+-- What the walks along a line give: a room's place, or the number of rooms where there is none.
 use mathlib.Core.Logic.{_⊎_}
 use mathlib.Core.List.{List}
 use Prim.Native.Nat.{ℕ, _≤_, _<_}
 use Rattle.rooms.specs.Corners.{OneLength}
-use lib.ListN.{length, getD}
-use Rattle.orders.specs.AlongLine.{Starts, End, Follows, StartsAtCorner}
-
--- the number at place i, counted from 0
-abbrev pub numberAt : List ℕ → ℕ → ℕ
-numberAt numbers i = getD numbers i 0
-
--- room r starts on the line at the point; or r is n, and no room does
-pub record Search (n : ℕ) (on from : ℕ → ℕ) (line point r : ℕ) : Type 0 where
-  pub within : r ≤ n
-  pub hit : r < n → (on r ≡ line) × (from r ≡ point)
-  pub miss : n ≤ r → ¬ Starts n on from line point
+use lib.ListN.{length}
+use Rattle.starts.specs.Starts.{numberAt, Starts}
+use Rattle.orders.specs.AlongLine.{End, Follows, StartsAtCorner}
 
 -- room r is the last along the line from the point; or r is n, and no room starts there
 pub record Walked (n : ℕ) (on from to : ℕ → ℕ) (line point r : ℕ) : Type 0 where

@@ -1,7 +1,6 @@
 -- Definitions that the contracts cite
 pub mod AlongLine
 pub mod Found
-pub mod Listed
 pub mod Ranked
 pub mod LabelsAndPositions
 -- The rule of the next room

@@ -3,14 +3,15 @@
 ghost use mathlib.Core.Path.{_≡_};
 ghost use mathlib.Core.List.{List};
 ghost use Prim.Native.Nat.{ℕ, _≤_, _<_};
-ghost use lib.ListN.{length, getD, replicate, take};
+ghost use lib.ListN.{length, getD, take};
 ghost use Rattle.drawing.specs.declared.Room.{Room};
 ghost use Rattle.rooms.specs.Outline.{least, greatest};
 ghost use Rattle.rooms.specs.Causes.{AcceptedRooms};
 ghost use Rattle.rooms.specs.LabelList.{labelList};
 ghost use Rattle.rooms.specs.Corners.{roomsOf, OneLength};
-ghost use Rattle.orders.specs.Found.{numberAt, OneWay, Sized, Search, Walked, Next};
-ghost use Rattle.orders.specs.Listed.{bucketOf, Listed};
+ghost use Rattle.orders.specs.Found.{OneWay, Sized, Walked, Next};
+ghost use Rattle.starts.specs.Listed.{Listed};
+ghost use Rattle.starts.specs.Starts.{numberAt, Search};
 ghost use Rattle.orders.specs.Ranked.{Ranked};
 ghost use Rattle.orders.specs.LabelsAndPositions.{PositionsAt, LabelsAt, LabelsAndPositions};
 
@@ -49,59 +50,6 @@ fn highest(numbers: &[u16]) -> u16
 
 // ---- rooms along a line
 
-// A byte as an index.
-fn wide(byte: u8) -> usize
-    ensures { λ r. ⌜ (r ≡ byte) × (r ≤ 255) ⌝ }
-{
-    byte as usize
-}
-
-// The bucket under which a room that starts on the line at the point is listed. Any number below 256 would do; this one spreads the rooms well.
-fn bucket(line: u16, point: u16) -> usize
-    ensures { λ r. ⌜ (r ≡ bucketOf line point) × (r < 256) ⌝ }
-{
-    (line as usize * 40503 + point as usize * 11003) / 128 % 256
-}
-
-// Lists every room under its bucket: `newest` has the last room of each bucket, and `older` the one before each room, both counted from 1, and 0 for none.
-fn list_starts(on: &[u16], from: &[u16], newest: &mut [u8; 256], older: &mut [u8; 255])
-    requires { ⌜ (length (now from) ≡ length (now on)) × (length (now on) ≤ 255) ⌝ ∗ ⌜ (now newest ≡ replicate 256 0) × (length (now older) ≡ 255) ⌝ }
-    ensures { λ _. ⌜ Listed (length (now (on .entry))) (numberAt (now (on .entry))) (numberAt (now (from .entry))) (now (newest .exit)) (now (older .exit)) ⌝ }
-{
-    let mut i = 0;
-    while i < on.len() {
-        let at = bucket(on[i], from[i]);
-        older[i] = newest[at];
-        i += 1;
-        newest[at] = i as u8;
-    }
-}
-
-// A room that starts on the line at the point, or the number of rooms where there is none. Only the rooms of one bucket are looked at.
-fn look_up(
-    on: &[u16],
-    from: &[u16],
-    newest: &[u8; 256],
-    older: &[u8; 255],
-    line: u16,
-    point: u16,
-) -> usize
-    requires { ⌜ (length (now from) ≡ length (now on)) × (length (now on) ≤ 255) ⌝ ∗ ⌜ Listed (length (now on)) (numberAt (now on)) (numberAt (now from)) (now newest) (now older) ⌝ }
-    ensures { λ r. ⌜ Search (length (now (on .entry))) (numberAt (now (on .entry))) (numberAt (now (from .entry))) line point r ⌝ }
-{
-    let mut at = wide(newest[bucket(line, point)]);
-    while 0 < at {
-        let i = at - 1;
-        if on[i] == line {
-            if from[i] == point {
-                return i;
-            }
-        }
-        at = wide(older[i]);
-    }
-    on.len()
-}
-
 // The last of the rooms along the line, the first of which starts at the point, and each other one where the one before it ends.
 fn walk(
     on: &[u16],
@@ -116,14 +64,14 @@ fn walk(
         ∗ ⌜ Listed (length (now on)) (numberAt (now on)) (numberAt (now from)) (now newest) (now older) ⌝ }
     ensures { λ r. ⌜ Walked (length (now (on .entry))) (numberAt (now (on .entry))) (numberAt (now (from .entry))) (numberAt (now (to .entry))) line point r ⌝ }
 {
-    let mut room = look_up(on, from, newest, older, line, point);
+    let mut room = starts::look_up(on, from, newest, older, line, point);
     if room == on.len() {
         return room;
     }
-    let mut further = look_up(on, from, newest, older, line, to[room]);
+    let mut further = starts::look_up(on, from, newest, older, line, to[room]);
     while further < on.len() {
         room = further;
-        further = look_up(on, from, newest, older, line, to[room]);
+        further = starts::look_up(on, from, newest, older, line, to[room]);
     }
     room
 }
@@ -210,8 +158,8 @@ fn ranks_from(
     let mut older_by_left = [0u8; 255];
     let mut by_bottom = [0u8; 256];
     let mut older_by_bottom = [0u8; 255];
-    list_starts(left, top, &mut by_left, &mut older_by_left);
-    list_starts(bottom, right, &mut by_bottom, &mut older_by_bottom);
+    starts::list_starts(left, top, &mut by_left, &mut older_by_left);
+    starts::list_starts(bottom, right, &mut by_bottom, &mut older_by_bottom);
     let mut room = corner_room(left, bottom, x, y);
     let mut rank = 1;
     while rank <= n {
@@ -254,6 +202,13 @@ pub fn labels(left: &[u16], bottom: &[u16], right: &[u16], top: &[u16], ranks: &
 }
 
 // ---- the label list
+
+// A byte as an index.
+fn wide(byte: u8) -> usize
+    ensures { λ r. ⌜ (r ≡ byte) × (r ≤ 255) ⌝ }
+{
+    byte as usize
+}
 
 // The labels by position, from the labels and the positions of the `n` rooms, which stand at the rooms' places.
 pub fn label_list(labels: &[u8; 255], positions: &[u8; 255], n: usize, list: &mut [u8; 255])

@@ -72,7 +72,7 @@ four-meet-requires : tie.Need-four-meet-requires
 four-meet-requires c κs =
     let e = c .before .before in
     let start = e .before .before .before .before .before .before .before .before in
-    (start .pre .0, (not-flat (e .before .before), (apart e, covered c)))
+    (start .pre .0, (not-flat (e .before .before), (apart e, (covered c, start .pre .1 .1))))
 
 returns-4 : tie.Need-returns-4
 returns-4 c =

@@ -5,7 +5,7 @@ use Prim.Native.Nat.{ℕ, _≤_, _<_, _-_}
 use borrow.Author.Count.{below-more}
 use native.Mathlib.Omega.{arith}
 use lib.ListN.{length}
-use Rattle.orders.specs.Found.{numberAt}
+use Rattle.starts.specs.Starts.{numberAt}
 use Rattle.orders.proofs.Searching.{search-done}
 use borrow.Author.Needs.{needs}
 use Rattle.orders.proofs.corner_room.Statement.{statement}

@@ -5,7 +5,7 @@ use Prim.Native.Nat.{_≤_, _-_}
 use native.Mathlib.Omega.{arith}
 use lib.ListN.{length}
 use Rattle.rooms.specs.Outline.{least}
-use Rattle.orders.specs.Found.{numberAt}
+use Rattle.starts.specs.Starts.{numberAt}
 use Rattle.orders.proofs.Extremes.{least-more}
 use borrow.Author.Needs.{needs}
 use Rattle.orders.proofs.lowest.Statement.{statement}

@@ -3,7 +3,7 @@ use mathlib.Core.Path.{_≡_, refl, _∙_}
 use Prim.Native.Nat.{ℕ, _+_, _-_, _≤_, _<_}
 use native.Mathlib.Omega.{arith}
 use lib.ListN.{length, length-set}
-use Rattle.orders.specs.Found.{numberAt}
+use Rattle.starts.specs.Starts.{numberAt}
 use Rattle.orders.specs.Ranked.{Ranked}
 use Rattle.orders.proofs.Ranking.{Kept, kept-first, kept-next}
 use borrow.Author.Needs.{needs}
@@ -12,7 +12,7 @@ use Rattle.orders.proofs.ranks_from.Tie as tie
 use Rattle.orders.proofs.ranks_from.Reads as reads
 use Rattle.orders.proofs.ranks_from.Lts as lts
 use Rattle.orders.proofs.corner_room.Reads as corner-room-reads
-use Rattle.orders.proofs.list_starts.Reads as list-starts-reads
+use Rattle.starts.proofs.list_starts.Reads as list-starts-reads
 use Rattle.orders.proofs.next.Reads as next-reads
 
 abbrev Inv-loop : tie.InvT-loop

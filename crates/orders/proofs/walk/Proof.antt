@@ -3,7 +3,7 @@ use Prim.Native.Nat.{_<_}
 use native.Mathlib.Omega.{arith}
 use lib.ListN.{length}
 use Rattle.orders.specs.AlongLine.{Reached}
-use Rattle.orders.specs.Found.{numberAt, Search}
+use Rattle.starts.specs.Starts.{numberAt, Search}
 use Rattle.orders.proofs.Searching.{walk-first, walk-further, walk-end, walk-none, ahead, ahead-falls}
 use borrow.Author.Needs.{needs}
 use Rattle.orders.proofs.walk.Statement.{statement}

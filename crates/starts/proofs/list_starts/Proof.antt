@@ -3,12 +3,12 @@ use mathlib.Core.Path.{sym, subst}
 use Prim.Native.Nat.{ℕ, _+_, _-_, _≤_}
 use native.Mathlib.Omega.{arith}
 use lib.ListN.{length, getD, set}
-use Rattle.orders.specs.Found.{numberAt}
-use Rattle.orders.specs.Listed.{Listed}
-use Rattle.orders.proofs.Listings.{listed-none, listed-more, listed-all}
+use Rattle.starts.specs.Starts.{numberAt}
+use Rattle.starts.specs.Listed.{Listed}
+use Rattle.starts.proofs.Listings.{listed-none, listed-more, listed-all}
 use borrow.Author.Needs.{needs}
-use Rattle.orders.proofs.list_starts.Statement.{statement}
-use Rattle.orders.proofs.list_starts.Tie as tie
+use Rattle.starts.proofs.list_starts.Statement.{statement}
+use Rattle.starts.proofs.list_starts.Tie as tie
 
 abbrev Inv-loop : tie.InvT-loop
 Inv-loop on from newest₀ older₀ i₀ newest older i = (i ≤ length on) × Listed i (numberAt on) (numberAt from) newest older

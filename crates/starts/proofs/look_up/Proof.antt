@@ -2,11 +2,11 @@
 use mathlib.Core.Logic.{⊎-elim}
 use native.Mathlib.Omega.{arith}
 use lib.ListN.{length}
-use Rattle.orders.specs.Found.{numberAt}
-use Rattle.orders.proofs.Listings.{Passed, passed-first, passed-next, older-falls, passed-all, passed-found}
+use Rattle.starts.specs.Starts.{numberAt}
+use Rattle.starts.proofs.Listings.{Passed, passed-first, passed-next, older-falls, passed-all, passed-found}
 use borrow.Author.Needs.{needs}
-use Rattle.orders.proofs.look_up.Statement.{statement}
-use Rattle.orders.proofs.look_up.Tie as tie
+use Rattle.starts.proofs.look_up.Statement.{statement}
+use Rattle.starts.proofs.look_up.Tie as tie
 
 abbrev Inv-loop : tie.InvT-loop
 Inv-loop on from newest older line point at₀ at = Passed (numberAt on) (numberAt from) (length on) line point at

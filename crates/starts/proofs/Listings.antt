@@ -7,8 +7,8 @@ use native.Mathlib.Omega.{arith}
 use lib.ListN.{length, getD, set, replicate, length-set, length-replicate, getD-replicate}
 use lib.Seq.{getD-set-same, getD-set-other}
 use Rattle.finite.specs.Decide.{eq-or-ne, le-or-lt}
-use Rattle.orders.specs.Listed.{bucketOf, Newest, Listed}
-use Rattle.orders.specs.Found.{Search}
+use Rattle.starts.specs.Listed.{bucketOf, Newest, Listed}
+use Rattle.starts.specs.Starts.{Search}
 
 module _ (on from : ℕ → ℕ) where
   abbrev bucketAt : ℕ → ℕ

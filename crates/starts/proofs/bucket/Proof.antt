@@ -1,10 +1,10 @@
 -- `bucket` meets its contract: the arithmetic fits, and a remainder by 256 is below 256.
 use mathlib.Core.Path.{refl}
 use native.Mathlib.Omega.{arith}
-use Rattle.orders.specs.Listed.{bucketOf}
+use Rattle.starts.specs.Listed.{bucketOf}
 use borrow.Author.Needs.{needs}
-use Rattle.orders.proofs.bucket.Statement.{statement}
-use Rattle.orders.proofs.bucket.Tie as tie
+use Rattle.starts.proofs.bucket.Statement.{statement}
+use Rattle.starts.proofs.bucket.Tie as tie
 
 mul-result : tie.Need-mul-result
 mul-result c = search needs
