@@ -11,7 +11,7 @@ use std::time::Instant;
 /// Rounds of each version.
 pub const ROUNDS: usize = 31;
 
-/// Rooms that a round takes, about.
+/// Rooms that a round takes, at least.
 const ROOMS_IN_A_ROUND: usize = 300_000;
 
 /// Nanoseconds per call.
@@ -20,10 +20,18 @@ pub struct Times {
     pub rust: f64,
 }
 
-/// The times of the quickest rounds. What is written in a case is not cleared
-/// before the next.
+/// So many calls that a round has rooms enough, and every case as often as
+/// every other.
+pub fn calls_in_a_round(cases: &[Case]) -> usize {
+    let rooms: usize = cases.iter().map(|case| case.labels.len()).sum();
+    ROOMS_IN_A_ROUND.div_ceil(rooms) * cases.len()
+}
+
+/// The times of the quickest rounds of so many calls, which take the cases in
+/// turn. What is written in a case is not cleared before the next.
 pub fn quickest<A, B>(
     cases: &[Case],
+    calls: usize,
     mut library: impl FnMut(&Case) -> A,
     mut rust: impl FnMut(&Case) -> B,
 ) -> Times {
@@ -32,22 +40,17 @@ pub fn quickest<A, B>(
         rust: f64::INFINITY,
     };
     for _ in 0..ROUNDS {
-        least.library = least.library.min(round(cases, &mut library));
-        least.rust = least.rust.min(round(cases, &mut rust));
+        least.library = least.library.min(round(cases, calls, &mut library));
+        least.rust = least.rust.min(round(cases, calls, &mut rust));
     }
     least
 }
 
 /// Nanoseconds per call of one round.
-fn round<A>(cases: &[Case], call: &mut impl FnMut(&Case) -> A) -> f64 {
-    let rooms: usize = cases.iter().map(|case| case.labels.len()).sum();
-    let repeats = ROOMS_IN_A_ROUND.div_ceil(rooms);
-
+fn round<A>(cases: &[Case], calls: usize, call: &mut impl FnMut(&Case) -> A) -> f64 {
     let start = Instant::now();
-    for _ in 0..repeats {
-        for case in cases {
-            black_box(call(black_box(case)));
-        }
+    for case in cases.iter().cycle().take(calls) {
+        black_box(call(black_box(case)));
     }
-    start.elapsed().as_nanos() as f64 / (repeats * cases.len()) as f64
+    start.elapsed().as_nanos() as f64 / calls as f64
 }

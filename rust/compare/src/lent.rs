@@ -1,6 +1,7 @@
 //! Slices that are lent to a call as the middle parts of larger buffers, so
 //! that whatever a call does outside of them shows.
 
+use crate::rooms_in::of_library;
 use std::fmt;
 
 /// What stands in and around the lent slices before a call.
@@ -26,8 +27,8 @@ pub const SURROUNDINGS: [Surroundings; 2] = [
     },
 ];
 
-/// An entry of an output slice.
-pub trait Entry: Copy + Eq + fmt::UpperHex {
+/// An entry of a lent slice.
+pub trait Entry: Copy + Eq {
     /// The entry whose bytes are all `fill`.
     fn of_bytes(fill: u8) -> Self;
 }
@@ -44,31 +45,49 @@ impl Entry for u16 {
     }
 }
 
+impl Entry for reference::Room {
+    fn of_bytes(fill: u8) -> Self {
+        let corner = u16::of_bytes(fill);
+        Self {
+            left: corner,
+            bottom: corner,
+            right: corner,
+            top: corner,
+        }
+    }
+}
+
+impl Entry for nenturxo::Room {
+    fn of_bytes(fill: u8) -> Self {
+        of_library(Entry::of_bytes(fill))
+    }
+}
+
 /// An input slice with its surroundings.
-pub struct Input {
-    buffer: Vec<u8>,
+pub struct Input<T> {
+    buffer: Vec<T>,
     around: Surroundings,
 }
 
-impl Input {
+impl<T: Entry> Input<T> {
     /// The buffer before a call.
-    pub fn new(bytes: &[u8], around: Surroundings) -> Self {
-        let margin = vec![around.fill; around.margin];
+    pub fn new(entries: &[T], around: Surroundings) -> Self {
+        let margin = vec![T::of_bytes(around.fill); around.margin];
         Self {
-            buffer: [&margin, bytes, &margin].concat(),
+            buffer: [&margin, entries, &margin].concat(),
             around,
         }
     }
 
     /// The slice to lend.
-    pub fn slice(&self) -> &[u8] {
+    pub fn slice(&self) -> &[T] {
         let margin = self.around.margin;
         &self.buffer[margin..self.buffer.len() - margin]
     }
 
-    /// Whether the slice is still `bytes` and all around it as it was.
-    pub fn is_still(&self, bytes: &[u8]) -> bool {
-        self.buffer == Self::new(bytes, self.around).buffer
+    /// Whether the slice is still `entries` and all around it as it was.
+    pub fn is_still(&self, entries: &[T]) -> bool {
+        self.buffer == Self::new(entries, self.around).buffer
     }
 }
 
@@ -106,7 +125,7 @@ impl<T: Entry> Output<T> {
     }
 }
 
-impl<T: Entry> fmt::Display for Output<T> {
+impl<T: Entry + fmt::UpperHex> fmt::Display for Output<T> {
     fn fmt(&self, f: &mut fmt::Formatter<'_>) -> fmt::Result {
         let (before, rest) = self.buffer.split_at(self.margin);
         let (slice, after) = rest.split_at(rest.len() - self.margin);
@@ -121,7 +140,7 @@ impl<T: Entry> fmt::Display for Output<T> {
 }
 
 /// The entries in hexadecimal, as records are written in the sheet.
-pub fn hex<T: Entry>(entries: &[T]) -> String {
+pub fn hex<T: fmt::UpperHex>(entries: &[T]) -> String {
     let width = 2 * size_of::<T>();
     let entries: Vec<String> = entries
         .iter()

@@ -1,6 +1,6 @@
 //! What the comparing tests and the benchmark share: random numbers, random
-//! Baxter lists and records, lists by the thousand, damage, and the comparison
-//! of one case.
+//! Baxter lists and records, lists by the thousand, random floorplans, damage,
+//! and the comparison of one case.
 //!
 //! Each call of the sheet, and the program, has a module here that compares a
 //! case of it, and a folder in `tests/` with the cases.
@@ -8,6 +8,7 @@
 #![forbid(unsafe_code)]
 
 pub mod damage;
+pub mod floorplan;
 mod given;
 mod labels_in;
 mod lent;
@@ -16,9 +17,13 @@ pub mod planlist;
 pub mod question;
 pub mod random;
 pub mod record_in;
+pub mod room_damage;
+pub mod rooms_in;
 mod tally;
 pub mod walk;
 
+pub use floorplan::Floorplan;
 pub use given::Given;
 pub use random::Random;
+pub use rooms_in::GivenRooms;
 pub use tally::{report, Tally};

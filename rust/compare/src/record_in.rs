@@ -3,7 +3,7 @@
 use crate::given::Given;
 use crate::lent::{Input, Output, Surroundings, SURROUNDINGS};
 use crate::tally::Tally;
-use reference::Refusal;
+use reference::{Plan, Refusal, Room};
 use std::fmt;
 
 /// The output slices of a call. All versions are called from here.
@@ -58,6 +58,35 @@ impl<'a> Slices<'a> {
         };
         (self.labels, corners)
     }
+}
+
+/// What the library reads in a record, with slices that are long enough.
+///
+/// # Errors
+///
+/// As [`nenturxo::record_in`].
+pub fn library_plan(record: &[u8]) -> Result<Plan, nenturxo::Refusal> {
+    let mut labels = vec![0; nenturxo::ROOMS_CAPACITY];
+    let mut corners = [[0; nenturxo::ROOMS_CAPACITY]; 4];
+    let slices = Slices {
+        labels: &mut labels,
+        corners: corners.each_mut().map(|corner| &mut corner[..]),
+    };
+    let n = slices.library(record)?;
+    labels.truncate(n);
+    let rooms = (0..n).map(|at| {
+        let [left, bottom, right, top] = corners.each_ref().map(|corner| corner[at]);
+        Room {
+            left,
+            bottom,
+            right,
+            top,
+        }
+    });
+    Ok(Plan {
+        labels,
+        rooms: rooms.collect(),
+    })
 }
 
 /// The lengths of the output slices: that for the labels, and those for the

@@ -16,11 +16,13 @@
 
 mod refusal;
 mod relation;
+mod room;
 #[allow(unsafe_code)]
 mod sys;
 
 pub use refusal::Refusal;
 pub use relation::Relation;
+pub use room::Room;
 
 /// The length of the longest record, that of 255 rooms.
 pub const RECORD_CAPACITY: usize = 97;
@@ -127,6 +129,47 @@ pub fn question(record: &[u8], first: u8, second: u8) -> Result<(Relation, bool)
         return Err(Refusal::from_code(code));
     }
     Ok(Relation::from_code(code))
+}
+
+/// Rooms in: writes the record of a list of rooms to the front of `record`,
+/// and the label and the position of each room in list order to the fronts of
+/// `labels` and `positions`, and gives the record's length. The rest of each
+/// slice keeps its entries.
+///
+/// The rooms may stand in any order, and the outline of the plan anywhere.
+/// Two plans have the same record exactly when they are equivalent.
+///
+/// ```
+/// use nenturxo::{rooms_in, Refusal, Room, RECORD_CAPACITY};
+///
+/// let room = |left, bottom, right, top| Room { left, bottom, right, top };
+/// let side_by_side = [room(1, 0, 2, 1), room(0, 0, 1, 1)];
+/// let mut record = [0; RECORD_CAPACITY];
+/// let [mut labels, mut positions] = [[0; 2]; 2];
+/// let length = rooms_in(&side_by_side, &mut record, &mut labels, &mut positions)?;
+/// assert_eq!(record[..length], [0x02, 0x40]);
+/// assert_eq!(labels, [2, 1]);
+/// assert_eq!(positions, [2, 1]);
+///
+/// let apart = [room(0, 0, 1, 1), room(2, 0, 3, 1)];
+/// let answer = rooms_in(&apart, &mut record, &mut labels, &mut positions);
+/// assert_eq!(answer, Err(Refusal::OPEN_SQUARE));
+/// # Ok::<(), Refusal>(())
+/// ```
+///
+/// # Errors
+///
+/// The first of these that holds, and all three slices are as they were:
+/// [1](Refusal::LIST_LENGTH), [2](Refusal::EMPTY_ROOM),
+/// [3](Refusal::SHARED_SQUARE), [4](Refusal::OPEN_SQUARE),
+/// [5](Refusal::FOUR_ROOMS_MEET), [15](Refusal::SLICE_SHORT).
+pub fn rooms_in(
+    rooms: &[Room],
+    record: &mut [u8],
+    labels: &mut [u8],
+    positions: &mut [u8],
+) -> Result<usize, Refusal> {
+    result(sys::rooms_in(rooms, record, labels, positions))
 }
 
 /// The result that a code stands for.

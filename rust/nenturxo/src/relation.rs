@@ -17,19 +17,16 @@ pub enum Relation {
 }
 
 impl Relation {
-    /// The relation that a code stands for, and whether the two rooms touch.
-    pub(crate) fn from_code(code: Code) -> (Self, bool) {
-        match code {
-            0 => (Self::Left, false),
-            1 => (Self::Right, false),
-            2 => (Self::Above, false),
-            3 => (Self::Below, false),
-            4 => (Self::Left, true),
-            5 => (Self::Right, true),
-            6 => (Self::Above, true),
-            7 => (Self::Below, true),
-            _ => unreachable!("the library has no code {code} for two positions"),
-        }
+    /// The relation that a code stands for, and whether the two rooms touch:
+    /// a code from 0 to 3 is the relation, and 4 more says that they do.
+    pub(crate) const fn from_code(code: Code) -> (Self, bool) {
+        let relation = match code & 3 {
+            0 => Self::Left,
+            1 => Self::Right,
+            2 => Self::Above,
+            _ => Self::Below,
+        };
+        (relation, code & 4 != 0)
     }
 
     /// How the other room stands to this one.
@@ -47,6 +44,29 @@ impl Relation {
             Self::Right => Self::Left,
             Self::Above => Self::Below,
             Self::Below => Self::Above,
+        }
+    }
+}
+
+#[cfg(test)]
+mod tests {
+    use super::Relation;
+
+    #[test]
+    fn every_code_stands_for_a_relation() {
+        let relations = [
+            Relation::Left,
+            Relation::Right,
+            Relation::Above,
+            Relation::Below,
+        ];
+        for (code, relation) in (0..).zip(relations) {
+            assert_eq!(Relation::from_code(code), (relation, false));
+            assert_eq!(Relation::from_code(code + 4), (relation, true));
+        }
+        // The library has no other codes; none of them is a panic.
+        for code in [-1, 8, i32::MIN, i32::MAX] {
+            assert!(relations.contains(&Relation::from_code(code).0));
         }
     }
 }

@@ -1,11 +1,13 @@
 //! The C interface, and the only unsafe code: one safe function for each call.
 
+use crate::Room;
+
 /// What a call gives back: at least 0 a result, below 0 a refusal's number
 /// negated.
 pub type Code = i32;
 
 mod c {
-    use super::Code;
+    use super::{Code, Room};
 
     extern "C" {
         pub fn nenturxo_labels_in(
@@ -31,6 +33,17 @@ mod c {
         ) -> Code;
 
         pub fn nenturxo_question(record: *const u8, n: usize, first: u8, second: u8) -> Code;
+
+        pub fn nenturxo_rooms_in(
+            rooms: *const Room,
+            n: usize,
+            record: *mut u8,
+            record_capacity: usize,
+            labels: *mut u8,
+            labels_capacity: usize,
+            positions: *mut u8,
+            positions_capacity: usize,
+        ) -> Code;
     }
 }
 
@@ -79,4 +92,30 @@ pub fn question(record: &[u8], first: u8, second: u8) -> Code {
     // SAFETY: the pointer is good for as many bytes as the length beside it
     // says. The call keeps no pointer.
     unsafe { c::nenturxo_question(record.as_ptr(), record.len(), first, second) }
+}
+
+/// `nenturxo_rooms_in` on four slices.
+pub fn rooms_in(
+    rooms: &[Room],
+    record: &mut [u8],
+    labels: &mut [u8],
+    positions: &mut [u8],
+) -> Code {
+    // SAFETY: a `Room` is laid out as the C interface says, four unsigned
+    // 16-bit numbers in this order. Every pointer is good for as many elements
+    // as the length beside it says, all but the first for writing too, and as
+    // all slices but the first are borrowed mutably no two overlap. The call
+    // keeps no pointer.
+    unsafe {
+        c::nenturxo_rooms_in(
+            rooms.as_ptr(),
+            rooms.len(),
+            record.as_mut_ptr(),
+            record.len(),
+            labels.as_mut_ptr(),
+            labels.len(),
+            positions.as_mut_ptr(),
+            positions.len(),
+        )
+    }
 }

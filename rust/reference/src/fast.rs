@@ -2,11 +2,13 @@
 
 mod labels;
 mod plan;
+mod rooms;
 mod steps;
 mod walks;
 
 pub use labels::labels_in;
 pub use plan::{question, record_in};
+pub use rooms::rooms_in;
 
 use std::hint::select_unpredictable;
 

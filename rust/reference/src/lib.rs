@@ -39,6 +39,6 @@ pub use planlist::planlist;
 pub use question::{question, Relation};
 pub use record::{record_of, triples_in};
 pub use refusal::Refusal;
-pub use rooms::{equivalent, rooms_in};
+pub use rooms::{equivalent, numbering_of, rooms_in, Numbering};
 pub use runs::{labels_of, Runs, TRIPLES};
 pub use triple::{triples, Triple};

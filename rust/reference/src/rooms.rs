@@ -14,6 +14,32 @@ use causes::floorplan_of;
 use orders::{label_list, orders_of};
 use segments::supports_of;
 
+/// What an accepted room list is answered with.
+#[derive(Clone, Debug, PartialEq, Eq)]
+pub struct Numbering {
+    /// The record of the label list.
+    pub record: Vec<u8>,
+    /// The label of each room, in list order.
+    pub labels: Vec<u8>,
+    /// The position of each room, in list order.
+    pub positions: Vec<u8>,
+}
+
+/// The record of a room list, and the labels and positions of its rooms.
+///
+/// # Errors
+///
+/// The first cause found in the order 1, 2, 3, 4, 5.
+pub fn numbering_of(rooms: &[Room]) -> Result<Numbering, Refusal> {
+    let floorplan = floorplan_of(rooms)?;
+    let orders = orders_of(&supports_of(&floorplan.rooms));
+    Ok(Numbering {
+        record: record_of(floorplan.n, &triples(&label_list(&orders))),
+        labels: orders.iter().map(|order| order.label).collect(),
+        positions: orders.iter().map(|order| order.position).collect(),
+    })
+}
+
 /// Rooms in: writes the record of the label list of the rooms to the front of
 /// `record`, and the label and the position of each room in list order to the
 /// fronts of `labels` and `positions`, and gives the record's length.
@@ -31,17 +57,28 @@ pub fn rooms_in(
     labels: &mut [u8],
     positions: &mut [u8],
 ) -> Result<usize, Refusal> {
-    let floorplan = floorplan_of(rooms)?;
-    let orders = orders_of(&supports_of(&floorplan.rooms));
-    let bytes = record_of(floorplan.n, &triples(&label_list(&orders)));
+    numbering_of(rooms)?.write(record, labels, positions)
+}
 
-    let record = front(record, bytes.len())?;
-    let labels = front(labels, rooms.len())?;
-    let positions = front(positions, rooms.len())?;
-    record.copy_from_slice(&bytes);
-    for (at, order) in orders.iter().enumerate() {
-        labels[at] = order.label;
-        positions[at] = order.position;
+impl Numbering {
+    /// Writes the record, the labels and the positions to the fronts of the
+    /// three slices and gives the record's length.
+    ///
+    /// # Errors
+    ///
+    /// 15 if one of the slices is too short; all three are then as they were.
+    pub fn write(
+        &self,
+        record: &mut [u8],
+        labels: &mut [u8],
+        positions: &mut [u8],
+    ) -> Result<usize, Refusal> {
+        let record = front(record, self.record.len())?;
+        let labels = front(labels, self.labels.len())?;
+        let positions = front(positions, self.positions.len())?;
+        record.copy_from_slice(&self.record);
+        labels.copy_from_slice(&self.labels);
+        positions.copy_from_slice(&self.positions);
+        Ok(record.len())
     }
-    Ok(bytes.len())
 }

@@ -1,10 +1,10 @@
 //! There and back through the library alone, without the definitions.
 
 use compare::lists::each_permutation;
-use compare::record_in::Slices;
+use compare::record_in::library_plan;
 use compare::walk::{biased_list, random_list};
 use compare::{report, Random};
-use nenturxo::{labels_in, Refusal, RECORD_CAPACITY, ROOMS_CAPACITY};
+use nenturxo::{labels_in, Refusal, RECORD_CAPACITY};
 
 /// The record of a label list.
 fn record_of(labels: &[u8]) -> Result<Vec<u8>, Refusal> {
@@ -15,14 +15,7 @@ fn record_of(labels: &[u8]) -> Result<Vec<u8>, Refusal> {
 
 /// The labels of a record.
 fn labels_of(record: &[u8]) -> Result<Vec<u8>, Refusal> {
-    let mut labels = [0; ROOMS_CAPACITY];
-    let mut corners = [[0; ROOMS_CAPACITY]; 4];
-    let slices = Slices {
-        labels: &mut labels,
-        corners: corners.each_mut().map(|corner| &mut corner[..]),
-    };
-    let n = slices.library(record)?;
-    Ok(labels[..n].to_vec())
+    library_plan(record).map(|plan| plan.labels)
 }
 
 #[test]

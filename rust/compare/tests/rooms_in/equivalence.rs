@@ -1,0 +1,106 @@
+//! Two plans get the same record exactly where they are equivalent, which is
+//! decided by trying all ways to pair their rooms off.
+
+use compare::lists::each_permutation;
+use compare::rooms_in::{library_numbering, rooms};
+use compare::walk::random_list;
+use compare::{report, Floorplan, Random};
+use reference::{equivalent, is_barred, Room};
+
+/// The rooms of a drawing, moved and in another order.
+fn moved(labels: &[u8], random: &mut Random) -> Vec<Room> {
+    let mut plan = Floorplan::drawn(labels);
+    plan.stretch(random);
+    plan.slide(5, random);
+    plan.shuffle(random);
+    plan.rooms()
+}
+
+/// Compares two plans, and says whether they are equivalent.
+fn compare(a: &[Room], b: &[Room]) -> bool {
+    let [of_a, of_b] = [a, b].map(|rooms| library_numbering(rooms).map(|answer| answer.record));
+    assert!(of_a.is_ok() && of_b.is_ok(), "{a:?} and {b:?}");
+    let same = of_a == of_b;
+    assert_eq!(same, equivalent(a, b), "{a:?} and {b:?}");
+    same
+}
+
+#[test]
+fn all_pairs_of_plans_of_up_to_4_rooms() {
+    const ROUNDS: usize = 4;
+    let mut random = Random::from_seed(141);
+    let mut lists = Vec::new();
+    for n in 1..=4 {
+        each_permutation(n, |labels| {
+            if !is_barred(labels) {
+                lists.push(labels.to_vec());
+            }
+        });
+    }
+    let (mut pairs, mut same) = (0, 0);
+    for a in &lists {
+        for b in &lists {
+            for _ in 0..ROUNDS {
+                let (a, b) = (moved(a, &mut random), moved(b, &mut random));
+                same += usize::from(compare(&a, &b));
+                pairs += 1;
+            }
+        }
+    }
+    report(format_args!("{pairs} pairs of up to 4 rooms, {same} same"));
+    assert_eq!(pairs, ROUNDS * 31 * 31);
+    assert_eq!(same, ROUNDS * 31);
+}
+
+#[test]
+fn pairs_of_plans_of_5_to_7_rooms() {
+    const PAIRS: usize = 500;
+    let mut random = Random::from_seed(142);
+    let mut same = 0;
+    for round in 0..PAIRS {
+        let n = [5, 5, 5, 6, 6, 7][round % 6];
+        let labels = random_list(n, &mut random).labels;
+        let other = random_list(n, &mut random).labels;
+        let plan = moved(&labels, &mut random);
+        assert!(compare(&plan, &moved(&labels, &mut random)), "{labels:?}");
+        same += usize::from(compare(&plan, &moved(&other, &mut random)));
+    }
+    report(format_args!(
+        "{} pairs of 5 to 7 rooms, {} same",
+        2 * PAIRS,
+        PAIRS + same
+    ));
+    assert!(same < PAIRS / 10, "most pairs of random plans differ");
+}
+
+/// Plans that differ only in what touches across a segment, and plans that
+/// look alike and are not equivalent.
+#[test]
+fn pairs_that_look_alike() {
+    // The upper cut left of the lower one, and right of it.
+    let left = rooms(&[[0, 0, 2, 1], [2, 0, 4, 1], [0, 1, 1, 2], [1, 1, 4, 2]]);
+    let right = rooms(&[[0, 0, 2, 1], [2, 0, 4, 1], [0, 1, 3, 2], [3, 1, 4, 2]]);
+    assert!(compare(&left, &right));
+    // The same, turned: the two are equivalent, but not to the others.
+    let low = rooms(&[[0, 0, 1, 2], [0, 2, 1, 4], [1, 0, 2, 1], [1, 1, 2, 4]]);
+    let high = rooms(&[[0, 0, 1, 2], [0, 2, 1, 4], [1, 0, 2, 3], [1, 3, 2, 4]]);
+    assert!(compare(&low, &high));
+    assert!(!compare(&left, &low));
+    // The two pinwheels.
+    let one = rooms(&[
+        [0, 0, 2, 1],
+        [2, 0, 3, 2],
+        [1, 2, 3, 3],
+        [0, 1, 1, 3],
+        [1, 1, 2, 2],
+    ]);
+    let other = rooms(&[
+        [1, 0, 3, 1],
+        [0, 0, 1, 2],
+        [0, 2, 2, 3],
+        [2, 1, 3, 3],
+        [1, 1, 2, 2],
+    ]);
+    assert!(!compare(&one, &other));
+    assert!(compare(&one, &one));
+}

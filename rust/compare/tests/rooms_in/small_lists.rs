@@ -1,0 +1,81 @@
+//! Every list of small rooms that is short enough, and random ones.
+
+use compare::rooms_in::rooms;
+use compare::{GivenRooms, Random, Tally};
+use reference::Refusal;
+
+#[test]
+fn every_list_of_up_to_2_rooms_in_a_3_by_3_box() {
+    let mut tally = Tally::new("lists of up to 2 rooms in a 3 by 3 box");
+    let corners: Vec<[u16; 4]> = (0..256)
+        .map(|code| [code % 4, code / 4 % 4, code / 16 % 4, code / 64])
+        .collect();
+    for &first in &corners {
+        let _ = tally.rooms_in(&GivenRooms::new(rooms(&[first])), [1; 3]);
+        for &second in &corners {
+            let given = GivenRooms::new(rooms(&[first, second]));
+            let _ = tally.rooms_in(&given, [2; 3]);
+        }
+    }
+    // 36 boxes are rooms; pairs are refused with 2 unless both are.
+    let empty = 256 - 36 + 65_536 - 36 * 36;
+    assert_eq!(tally.refused(Refusal::EmptyRoom), empty);
+    // A box alone, or one cut in two, across or up, in either order: 4 spans
+    // with a place to cut them, by 6 spans the other way.
+    assert_eq!(tally.accepted(), 36 + 2 * 2 * 4 * 6);
+    tally.finish(256 + 65_536);
+}
+
+#[test]
+fn every_list_of_3_rooms_in_a_2_by_2_box() {
+    let mut tally = Tally::new("lists of 3 rooms in a 2 by 2 box");
+    let spans = [(0, 1), (1, 2), (0, 2)];
+    let boxes: Vec<[u16; 4]> = spans
+        .iter()
+        .flat_map(|x| spans.iter().map(move |y| [x.0, y.0, x.1, y.1]))
+        .collect();
+    for first in 0..9 {
+        for second in 0..9 {
+            for third in 0..9 {
+                let list = [first, second, third].map(|at: usize| boxes[at]);
+                tally.rooms(&GivenRooms::new(rooms(&list)));
+            }
+        }
+    }
+    // One half of the box and the other one cut: 4 plans in 6 orders each.
+    assert_eq!(tally.accepted(), 2 * 4 * 6);
+    tally.finish(3 * 9 * 9 * 9);
+}
+
+#[test]
+fn any_corners_at_all() {
+    const LISTS: usize = 30_000;
+    let mut tally = Tally::new("lists of any corners at all");
+    let mut random = Random::from_seed(121);
+    for round in 0..LISTS {
+        // Mostly tiny numbers, so that some lists are floorplans.
+        let most = [1, 2, 3, 65_535][round % 4];
+        let mut number = || u16::try_from(random.between(0, most)).expect("16 bits");
+        let mut room = || [number(), number(), number(), number()];
+        let list: Vec<[u16; 4]> = (0..round % 7).map(|_| room()).collect();
+        tally.rooms(&GivenRooms::new(rooms(&list)));
+        // The same without empty rooms.
+        let upright = list.iter().map(|&[left, bottom, width, height]| {
+            let [right, top] = [(left, width), (bottom, height)]
+                .map(|(start, length)| start.saturating_add(length / 2).saturating_add(1));
+            [left.min(right - 1), bottom.min(top - 1), right, top]
+        });
+        tally.rooms(&GivenRooms::new(rooms(&upright.collect::<Vec<_>>())));
+    }
+    for refusal in [
+        Refusal::ListLength,
+        Refusal::EmptyRoom,
+        Refusal::SharedSquare,
+        Refusal::OpenSquare,
+    ] {
+        assert!(tally.refused(refusal) > 1000, "too few with {refusal:?}");
+    }
+    assert!(tally.refused(Refusal::FourRoomsMeet) > 10);
+    assert!(tally.accepted() > 1000);
+    tally.finish(2 * 3 * LISTS);
+}

@@ -1,0 +1,97 @@
+//! Answers that are printed: the sheet's room plans, and the drawings of its
+//! label lists.
+
+use compare::rooms_in::rooms;
+use compare::{Floorplan, GivenRooms, Tally};
+use reference::{Numbering, Refusal};
+
+/// Compares a list whose answer by the definitions must be this one.
+fn expect(tally: &mut Tally, corners: &[[u16; 4]], answer: Result<Numbering, Refusal>) {
+    let given = GivenRooms::new(rooms(corners));
+    assert_eq!(given.answer, answer, "{given}");
+    tally.rooms(&given);
+}
+
+/// The answer with this record, and these labels and positions.
+fn numbering(record: &[u8], labels: &[u8], positions: &[u8]) -> Result<Numbering, Refusal> {
+    Ok(Numbering {
+        record: record.to_vec(),
+        labels: labels.to_vec(),
+        positions: positions.to_vec(),
+    })
+}
+
+#[test]
+fn worked_plans_of_the_sheet() {
+    let mut tally = Tally::new("room plans of the sheet");
+    let [unit, right, upper] = [[0, 0, 1, 1], [1, 0, 2, 1], [0, 1, 1, 2]];
+    let row = &[0x02, 0x40];
+    expect(&mut tally, &[unit, right], numbering(row, &[1, 2], &[1, 2]));
+    expect(&mut tally, &[right, unit], numbering(row, &[2, 1], &[2, 1]));
+
+    let pile = &[0x02, 0xa0];
+    let answer = numbering(pile, &[2, 1], &[1, 2]);
+    expect(&mut tally, &[unit, upper], answer);
+    let answer = numbering(pile, &[1, 2], &[2, 1]);
+    expect(&mut tally, &[upper, unit], answer);
+
+    let squares = [unit, right, upper, [1, 1, 2, 2]];
+    expect(&mut tally, &squares, Err(Refusal::FourRoomsMeet));
+    let apart = [unit, [2, 0, 3, 1]];
+    expect(&mut tally, &apart, Err(Refusal::OpenSquare));
+    assert_eq!(tally.accepted(), 4 * 2);
+    tally.finish(6 * 3);
+}
+
+#[test]
+fn drawings_of_the_sheets_label_lists() {
+    let mut tally = Tally::new("drawings of the sheet's label lists");
+    let worked: [(&[u8], &[u8]); 8] = [
+        (&[1], &[0x01]),
+        (&[1, 2], &[0x02, 0x40]),
+        (&[2, 1], &[0x02, 0xa0]),
+        (&[3, 4, 1, 2], &[0x04, 0x47, 0x00]),
+        (&[4, 1, 3, 5, 2], &[0x05, 0x31, 0x70]),
+        (&[4, 1, 3, 6, 5, 2], &[0x06, 0x30, 0x7e]),
+        (&[5, 2, 1, 4, 6, 3], &[0x06, 0x36, 0x2e]),
+        (&[2, 7, 3, 1, 5, 6, 4], &[0x07, 0x0e, 0x8d, 0xc0]),
+    ];
+    for (labels, record) in worked {
+        let given = GivenRooms::new(Floorplan::drawn(labels).rooms());
+        let positions: Vec<u8> = (1..).take(labels.len()).collect();
+        assert_eq!(given.answer, numbering(record, labels, &positions));
+        tally.rooms(&given);
+    }
+    tally.finish(8 * 3);
+}
+
+#[test]
+fn rows_and_piles_of_every_count() {
+    let mut tally = Tally::new("rows and piles of 1 to 255 rooms");
+    for n in 1..=255u8 {
+        for labels in [(1..=n).collect::<Vec<u8>>(), (1..=n).rev().collect()] {
+            tally.rooms(&Floorplan::drawn(&labels).given());
+        }
+    }
+    assert_eq!(tally.accepted(), 2 * 255 * 2);
+    tally.finish(2 * 255 * 3);
+}
+
+#[test]
+fn a_far_room_with_smaller_x_may_be_below_instead() {
+    let mut tally = Tally::new("a trap of the sheet");
+    // The first room is left of the last one by x, yet the bar between them
+    // makes it below.
+    let list = [
+        [0, 0, 1, 1],
+        [1, 0, 4, 1],
+        [0, 1, 4, 2],
+        [0, 2, 3, 3],
+        [3, 2, 4, 3],
+    ];
+    let given = GivenRooms::new(rooms(&list));
+    let labels = given.answer.as_ref().map(|answer| &answer.labels[..]);
+    assert_eq!(labels, Ok(&[4, 5, 3, 1, 2][..]));
+    tally.rooms(&given);
+    tally.finish(3);
+}
