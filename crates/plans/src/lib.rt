@@ -7,7 +7,7 @@ ghost use Rattle.rooms.specs.Causes.{AcceptedRooms};
 ghost use Rattle.rooms.specs.LabelList.{recordOfRooms};
 ghost use Rattle.rooms.specs.Corners.{roomsOf, OneLength};
 ghost use Rattle.plans.specs.Answer.{roomsAnswer, labelsOfRooms, positionsOfRooms, written};
-ghost use Rattle.plans.specs.Copied.{noCopied, stepOf, gathered, roomsIn};
+ghost use Rattle.plans.specs.Copied.{put, roomsIn};
 use checks::Verdict;
 use drawing::Room;
 use record::LabelsAnswer;
@@ -105,104 +105,50 @@ fn enter(
 
 // ---- rooms lent as structs
 
-// Rooms copied out of a list, corner by corner: the first 255 of them, and how many rooms there are, where every number over 255 is 256.
-struct Copied {
-    left: [u16; 255],
-    bottom: [u16; 255],
-    right: [u16; 255],
-    top: [u16; 255],
+// Copies a room's corners to its place in each quarter of an array: the lefts stand from 0, the bottoms from 255, the rights from 510 and the tops from 765. At 255 and beyond nothing is done.
+fn put_room(corners: &mut [u16; 1020], at: usize, room: Room)
+    requires { ⌜ length (now corners) ≡ 1020 ⌝ }
+    ensures { λ _. ⌜ now (corners .exit) ≡ put (now (corners .entry)) at room ⌝ }
+{
+    if at < 255 {
+        corners[at] = room.left;
+        corners[255 + at] = room.bottom;
+        corners[510 + at] = room.right;
+        corners[765 + at] = room.top;
+    }
+}
+
+// Rooms in, on so many rooms that were copied. More than 255 are refused: the array does not hold them all.
+fn finish(
+    corners: &[u16; 1020],
     count: usize,
-}
-
-// No room yet.
-fn no_rooms() -> Copied
-    ensures { λ r. ⌜ r ≡ noCopied ⌝ }
+    record: &mut [u8],
+    labels: &mut [u8],
+    positions: &mut [u8],
+) -> RoomsAnswer
+    requires { ⌜ length (now corners) ≡ 1020 ⌝ }
+    ensures answer { λ r. ⌜ r ≡ roomsAnswer (roomsIn (now (corners .entry)) count) (length (now («record» .entry))) (length (now (labels .entry))) (length (now (positions .entry))) ⌝ }
+    ensures bytes { λ r. ⌜ now («record» .exit) ≡ written r (recordOfRooms (roomsIn (now (corners .entry)) count)) (now («record» .entry)) ⌝ }
+    ensures each { λ r. ⌜ now (labels .exit) ≡ written r (labelsOfRooms (roomsIn (now (corners .entry)) count)) (now (labels .entry)) ⌝ }
+    ensures places { λ r. ⌜ now (positions .exit) ≡ written r (positionsOfRooms (roomsIn (now (corners .entry)) count)) (now (positions .entry)) ⌝ }
 {
-    let left = [0u16; 255];
-    let bottom = [0u16; 255];
-    let right = [0u16; 255];
-    let top = [0u16; 255];
-    Copied {
-        left: left,
-        bottom: bottom,
-        right: right,
-        top: top,
-        count: 0,
-    }
-}
-
-// One room more: it is copied to the next place, or there are too many.
-fn step(copied: Copied, room: Room) -> Copied
-    ensures { λ r. ⌜ r ≡ stepOf copied room ⌝ }
-{
-    let n = copied.count;
-    let mut left = copied.left;
-    let mut bottom = copied.bottom;
-    let mut right = copied.right;
-    let mut top = copied.top;
-    if n < 255 {
-        left[n] = room.left;
-        bottom[n] = room.bottom;
-        right[n] = room.right;
-        top[n] = room.top;
-        return Copied {
-            left: left,
-            bottom: bottom,
-            right: right,
-            top: top,
-            count: n + 1,
-        };
-    }
-    Copied {
-        left: left,
-        bottom: bottom,
-        right: right,
-        top: top,
-        count: 256,
-    }
-}
-
-// Every room of a list, one after the other.
-fn gather(rooms: &[Room], copied: Copied) -> Copied
-    ensures { λ r. ⌜ r ≡ gathered copied (now (rooms .entry)) ⌝ }
-{
-    let mut out = copied;
-    let mut i = 0;
-    while i < rooms.len() {
-        out = step(out, rooms[i]);
-        i += 1;
-    }
-    out
-}
-
-// Rooms in, on the rooms that were copied.
-fn finish(copied: Copied, record: &mut [u8], labels: &mut [u8], positions: &mut [u8]) -> RoomsAnswer
-    ensures answer { λ r. ⌜ r ≡ roomsAnswer (roomsIn copied) (length (now («record» .entry))) (length (now (labels .entry))) (length (now (positions .entry))) ⌝ }
-    ensures bytes { λ r. ⌜ now («record» .exit) ≡ written r (recordOfRooms (roomsIn copied)) (now («record» .entry)) ⌝ }
-    ensures each { λ r. ⌜ now (labels .exit) ≡ written r (labelsOfRooms (roomsIn copied)) (now (labels .entry)) ⌝ }
-    ensures places { λ r. ⌜ now (positions .exit) ≡ written r (positionsOfRooms (roomsIn copied)) (now (positions .entry)) ⌝ }
-{
-    let n = copied.count;
-    if 255 < n {
+    if 255 < count {
         return RoomsAnswer::Refused(Refusal::Count);
     }
-    let left = copied.left;
-    let bottom = copied.bottom;
-    let right = copied.right;
-    let top = copied.top;
+    let all = &corners[..];
     enter(
-        &left[..n],
-        &bottom[..n],
-        &right[..n],
-        &top[..n],
+        &all[..count],
+        &all[255..255 + count],
+        &all[510..510 + count],
+        &all[765..765 + count],
         record,
         labels,
         positions,
     )
 }
 
-// Rooms in, on rooms lent as structs: they are copied, and the rest is done on the copy. What takes a lent slice of structs is proved by hand: so there is no
-// branch and no loop here, and in `gather` one loop with one call.
+// Rooms in, on rooms lent as structs: they are copied, and the rest is done on the copy. What takes a lent slice of structs is proved by hand: so there is one
+// loop here with one call, and one call after it.
 pub fn rooms_in(
     rooms: &[Room],
     record: &mut [u8],
@@ -214,7 +160,11 @@ pub fn rooms_in(
     ensures each { λ r. ⌜ now (labels .exit) ≡ written r (labelsOfRooms (now (rooms .entry))) (now (labels .entry)) ⌝ }
     ensures places { λ r. ⌜ now (positions .exit) ≡ written r (positionsOfRooms (now (rooms .entry))) (now (positions .entry)) ⌝ }
 {
-    let none = no_rooms();
-    let copied = gather(rooms, none);
-    finish(copied, record, labels, positions)
+    let mut corners = [0u16; 1020];
+    let mut passed = 0;
+    while passed < rooms.len() {
+        put_room(&mut corners, passed, rooms[passed]);
+        passed += 1;
+    }
+    finish(&corners, passed, record, labels, positions)
 }
