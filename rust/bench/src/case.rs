@@ -81,7 +81,7 @@ impl Case {
         let (mut library, mut rust) = (Numbered::new(), Numbered::new());
         let lengths = (
             library.by_library(&self.handed).ok(),
-            rust.by_rust(&self.rooms).ok(),
+            rust.by_tuned(&self.rooms).ok(),
         );
         let (n, length) = (self.rooms.len(), self.record.len());
         assert_eq!(lengths, (Some(length), Some(length)), "{:?}", self.rooms);
@@ -151,8 +151,18 @@ impl Numbered {
         nenturxo::rooms_in(rooms, record, labels, positions)
     }
 
+    /// Hands rooms to the Rust version that is written straight from the sheet.
+    pub fn by_sheet(&mut self, rooms: &[Room]) -> Result<usize, Refusal> {
+        let Self {
+            record,
+            labels,
+            positions,
+        } = self;
+        reference::rooms_in(rooms, record, labels, positions)
+    }
+
     /// Hands rooms to the fast Rust version.
-    pub fn by_rust(&mut self, rooms: &[Room]) -> Result<usize, Refusal> {
+    pub fn by_tuned(&mut self, rooms: &[Room]) -> Result<usize, Refusal> {
         let Self {
             record,
             labels,

@@ -1,5 +1,6 @@
-//! Times the calls: the library against hand-written Rust, on the same inputs
-//! in one run.
+//! Times the calls: the library against the two separately written Rust
+//! versions, the one straight from the sheet and the one that is written to be
+//! fast, on the same inputs in one run.
 
 #![forbid(unsafe_code)]
 
@@ -70,50 +71,57 @@ fn cases(n: usize) -> Vec<Case> {
 }
 
 fn print_head(title: &str) {
-    let [n, library, rust, ratio] = ["n", "library", "Rust", "library / Rust"];
     println!("\n{title}");
-    println!("{:<9} {n:>5} {library:>10} {rust:>10} {ratio:>16}", "");
+    print!("{:<9} {:>5} {:>10}", "", "n", "library");
+    println!(
+        " {:>12} {:>6} {:>10} {:>6}",
+        "sheet", "ratio", "tuned", "ratio"
+    );
 }
 
 /// Prints the times of a call, taken over so many calls in a round and in the
-/// unit of which a nanosecond per call is `worth` many.
+/// unit of which a nanosecond per call is `worth` many, and the ratios of the
+/// library to each of the two Rust versions.
 fn print_row((name, times_of): Call, cases: &[Case], calls: usize, worth: f64) {
     let times = times_of(cases, calls);
-    let (library, rust) = (times.library * worth, times.rust * worth);
-    let (n, ratio) = (cases[0].labels.len(), library / rust);
-    println!("{name:<9} {n:>5} {library:>10.2} {rust:>10.2} {ratio:>16.2}");
+    let [library, sheet, tuned] = [times.library, times.sheet, times.tuned].map(|t| t * worth);
+    let n = cases[0].labels.len();
+    print!("{name:<9} {n:>5} {library:>10.2}");
+    print!(" {sheet:>12.2} {:>6.3}", library / sheet);
+    println!(" {tuned:>10.2} {:>6.2}", library / tuned);
 }
 
 fn labels_in(cases: &[Case], calls: usize) -> Times {
     let mut record = [0; nenturxo::RECORD_CAPACITY];
-    let mut same = record;
+    let (mut plain, mut same) = (record, record);
     quickest(
         cases,
         calls,
         |case| nenturxo::labels_in(&case.labels, &mut record),
+        |case| reference::labels_in(&case.labels, &mut plain),
         |case| reference::fast::labels_in(&case.labels, &mut same),
     )
 }
 
 fn record_in(cases: &[Case], calls: usize) -> Times {
-    let mut drawn = Drawn::new();
-    let mut same = Drawn::new();
+    let [mut drawn, mut plain, mut same] = [Drawn::new(), Drawn::new(), Drawn::new()];
     quickest(
         cases,
         calls,
         |case| drawn.slices().library(&case.record),
+        |case| plain.slices().sheet(&case.record),
         |case| same.slices().fast(&case.record),
     )
 }
 
 fn rooms_in(cases: &[Case], calls: usize) -> Times {
-    let mut numbered = Numbered::new();
-    let mut same = Numbered::new();
+    let [mut numbered, mut plain, mut same] = [Numbered::new(), Numbered::new(), Numbered::new()];
     quickest(
         cases,
         calls,
         |case| numbered.by_library(&case.handed),
-        |case| same.by_rust(&case.rooms),
+        |case| plain.by_sheet(&case.rooms),
+        |case| same.by_tuned(&case.rooms),
     )
 }
 
@@ -122,6 +130,7 @@ fn question(cases: &[Case], calls: usize) -> Times {
         cases,
         calls,
         |case| nenturxo::question(&case.record, case.first, case.second),
+        |case| reference::question(&case.record, case.first, case.second),
         |case| reference::fast::question(&case.record, case.first, case.second),
     )
 }

@@ -31,6 +31,17 @@ impl<'a> Slices<'a> {
         nenturxo::record_in(record, self.labels, corners)
     }
 
+    /// Hands a record to the Rust version that is written straight from the
+    /// sheet.
+    ///
+    /// # Errors
+    ///
+    /// As [`reference::record_in`].
+    pub fn sheet(self, record: &[u8]) -> Result<usize, Refusal> {
+        let (labels, corners) = self.for_reference();
+        reference::record_in(record, labels, corners)
+    }
+
     /// Hands a record to the fast Rust version.
     ///
     /// # Errors
