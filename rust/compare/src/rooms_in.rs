@@ -1,5 +1,6 @@
 //! The comparison of one case of "Rooms in".
 
+use crate::floorplan::Floorplan;
 use crate::lent::{Entry, Input, Output, Surroundings, SURROUNDINGS};
 use crate::lists::record_length;
 use crate::tally::Tally;
@@ -72,6 +73,19 @@ impl Tally {
         let [answer, _] = SURROUNDINGS.map(|around| agreed(given, capacities, around));
         self.count(&answer);
         answer
+    }
+
+    /// Compares the rooms of a plan as [`Self::rooms`] does, with the answer
+    /// of the definitions.
+    ///
+    /// # Panics
+    ///
+    /// If the definitions give the plan another numbering, or as
+    /// [`Self::rooms`].
+    pub fn defined_plan(&mut self, plan: &Floorplan) {
+        let given = GivenRooms::new(plan.rooms());
+        assert_eq!(given.answer, Ok(plan.numbering()), "{given}");
+        self.rooms(&given);
     }
 
     /// Compares an accepted list in slices of just the right length, in longer

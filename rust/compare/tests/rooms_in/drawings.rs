@@ -3,7 +3,7 @@
 
 use compare::lists::each_permutation;
 use compare::walk::{biased_list, random_list};
-use compare::{Floorplan, GivenRooms, Random, Tally};
+use compare::{Floorplan, Random, Tally};
 use reference::is_barred;
 
 /// The number of Baxter lists of 1 to 6 labels.
@@ -21,9 +21,7 @@ fn every_drawing_of_up_to_6_labels() {
             }
             let mut plan = Floorplan::drawn(labels);
             for _ in 0..ROUNDS {
-                let given = GivenRooms::new(plan.rooms());
-                assert_eq!(given.answer, Ok(plan.numbering()), "{given}");
-                tally.rooms(&given);
+                tally.defined_plan(&plan);
                 plan.stretch(&mut random);
                 plan.slide(6, &mut random);
                 plan.shuffle(&mut random);
@@ -45,9 +43,7 @@ fn drawings_of_random_lists_of_up_to_40_labels() {
         plan.stretch(&mut random);
         plan.slide(n, &mut random);
         plan.shuffle(&mut random);
-        let given = GivenRooms::new(plan.rooms());
-        assert_eq!(given.answer, Ok(plan.numbering()), "{given}");
-        tally.rooms(&given);
+        tally.defined_plan(&plan);
     }
     assert_eq!(tally.accepted(), 2 * PLANS);
     tally.finish(3 * PLANS);
@@ -92,9 +88,7 @@ fn drawings_of_255_labels_by_the_definitions() {
         plan.stretch(&mut random);
         plan.slide(100, &mut random);
         plan.shuffle(&mut random);
-        let given = GivenRooms::new(plan.rooms());
-        assert_eq!(given.answer, Ok(plan.numbering()), "{given}");
-        tally.rooms(&given);
+        tally.defined_plan(&plan);
     }
     assert_eq!(tally.accepted(), 2 * PLANS);
     tally.finish(3 * PLANS);

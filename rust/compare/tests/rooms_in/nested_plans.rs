@@ -1,6 +1,6 @@
 //! Plans that are cut again and again, also into pinwheels.
 
-use compare::{Floorplan, GivenRooms, Random, Tally};
+use compare::{Floorplan, Random, Tally};
 use reference::Room;
 
 /// A box: as large as there is, or some other one that leaves room enough.
@@ -40,9 +40,7 @@ fn nested_plans_of_up_to_30_rooms() {
     for round in 0..PLANS {
         let n = random.between(1, 30);
         let plan = some_plan(n, round, &mut random);
-        let given = GivenRooms::new(plan.rooms());
-        assert_eq!(given.answer, Ok(plan.numbering()), "{given}");
-        tally.rooms(&given);
+        tally.defined_plan(&plan);
     }
     assert_eq!(tally.accepted(), 2 * PLANS);
     tally.finish(3 * PLANS);
@@ -72,9 +70,7 @@ fn nested_plans_of_255_rooms_by_the_definitions() {
     let mut random = Random::from_seed(103);
     for round in 0..PLANS {
         let plan = some_plan(255, round, &mut random);
-        let given = GivenRooms::new(plan.rooms());
-        assert_eq!(given.answer, Ok(plan.numbering()), "{given}");
-        tally.rooms(&given);
+        tally.defined_plan(&plan);
     }
     assert_eq!(tally.accepted(), 2 * PLANS);
     tally.finish(3 * PLANS);
