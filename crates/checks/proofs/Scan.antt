@@ -1,7 +1,7 @@
 -- A loop that looks at the numbers below n in turn: what one more number does to whether some number has been found, and to a least, a greatest or a sum.
 use mathlib.Core.Path.{_≡_, refl, subst}
 use mathlib.Core.Logic.{inl, inr}
-use Prim.Native.Nat.{ℕ, _+_, _≤_, min, max, zero-le}
+use Prim.Native.Nat.{ℕ, _+_, _≤_, zero-le}
 use native.Mathlib.Numerals.{add-one}
 use native.Mathlib.Omega.{arith}
 use lib.Bits.{bitOr}
@@ -9,7 +9,6 @@ use lib.Dec.{eqb}
 use Rattle.finite.specs.Decide.{Tells, eq-or-ne}
 use Rattle.finite.specs.Search.{Some}
 use Rattle.finite.specs.Sum.{sum}
-use Rattle.rooms.specs.Outline.{least, greatest}
 use Rattle.checks.specs.Marks.{Marks}
 use Rattle.checks.specs.Sums.{sum-next}
 use Rattle.checks.proofs.Tell.{equal-tells}
@@ -48,18 +47,6 @@ module _ (P : ℕ → Type 0) where
       back (inl (one, s)) some = one
       back (inr (none, s)) some = absurd (s (rw e some))
 
--- ---- one more number under a least, a greatest or a sum
-pub least-of-one : (f : ℕ → ℕ) → f 0 ≡ least f 1
-unfolding least
-least-of-one f = omega arith
-
-pub least-more : (f : ℕ → ℕ) (n : ℕ) → least f (n + 1) ≡ min (f n) (least f n)
-unfolding least
-least-more f n = rw (add-one n)
-
-pub greatest-more : (f : ℕ → ℕ) (n : ℕ) → greatest f (n + 1) ≡ max (f n) (greatest f n)
-unfolding greatest
-greatest-more f n = rw (add-one n)
-
+-- ---- one more number under a sum
 pub sum-more : (f : ℕ → ℕ) (n : ℕ) → sum f 0 (n + 1) ≡ sum f 0 n + f n
 sum-more f n = rw (add-one n) (sum-next f n)

@@ -21,10 +21,3 @@ module _ (A : Type 0) (a b : ℕ) where
       go : (t : Bool) → eqb a b ≡ t → Tells (not t) A
       go true e = λ h. back h (eqb-true a b e)
       go false e = there (eqb-false a b e)
-
--- a Bool that is known
-pub told-true : (A : Type 0) (t : Bool) → t ≡ true → Tells t A → A
-told-true A t e h = rw e at h
-
-pub told-false : (A : Type 0) (t : Bool) → t ≡ false → Tells t A → ¬ A
-told-false A t e h = rw e at h

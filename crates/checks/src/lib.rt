@@ -1,10 +1,9 @@
 // The causes 2 to 5 of a room list, decided on its rooms' corners: four lists of one length, each corner at the room's place.
 ghost use mathlib.Core.Path.{_≡_};
-ghost use Prim.Native.Nat.{_*_, _≤_, _<_, min, max};
-ghost use lib.ListN.{length, getD};
+ghost use Prim.Native.Nat.{_*_, _≤_, _<_};
+ghost use lib.ListN.{length};
 ghost use Rattle.finite.specs.Decide.{Tells};
 ghost use Rattle.finite.specs.Sum.{sum};
-ghost use Rattle.rooms.specs.Outline.{least, greatest};
 ghost use Rattle.rooms.specs.Causes.{RoomSize, ShareSquare, Overlap, Uncovered, FourMeet};
 ghost use Rattle.rooms.specs.Corners.{cornersAt, OneLength};
 ghost use Rattle.checks.specs.CornerLists.{roomsIn, SharesEarlier};
@@ -36,25 +35,6 @@ fn room_at(left: &[u16], bottom: &[u16], right: &[u16], top: &[u16], i: usize) -
     }
 }
 
-// The smaller of two corners, and the larger. The compiler makes no jump of them.
-fn smaller(a: u16, b: u16) -> u16
-    ensures { λ r. ⌜ r ≡ min a b ⌝ }
-{
-    if a < b {
-        return a;
-    }
-    b
-}
-
-fn larger(a: u16, b: u16) -> u16
-    ensures { λ r. ⌜ r ≡ max a b ⌝ }
-{
-    if a < b {
-        return b;
-    }
-    a
-}
-
 // ---- cause 2
 
 // Whether a room has no width or no height.
@@ -81,10 +61,10 @@ fn flat(left: &[u16], bottom: &[u16], right: &[u16], top: &[u16]) -> bool
 fn share(first: Room, second: Room) -> u16
     ensures { λ r. ⌜ Marks r (ShareSquare first second) ⌝ }
 {
-    let left = larger(first.left, second.left);
-    let right = smaller(first.right, second.right);
-    let bottom = larger(first.bottom, second.bottom);
-    let top = smaller(first.top, second.top);
+    let left = rooms::larger(first.left, second.left);
+    let right = rooms::smaller(first.right, second.right);
+    let bottom = rooms::larger(first.bottom, second.bottom);
+    let top = rooms::smaller(first.top, second.top);
     if left < right {
         if bottom < top {
             return 1;
@@ -127,32 +107,6 @@ fn overlap(left: &[u16], bottom: &[u16], right: &[u16], top: &[u16]) -> bool
 
 // ---- cause 4
 
-// The smallest of the corners, and the largest.
-fn low(corner: &[u16]) -> u16
-    requires { ⌜ 0 < length (now corner) ⌝ }
-    ensures { λ r. ⌜ r ≡ least (λ i. getD (now (corner .entry)) i 0) (length (now (corner .entry))) ⌝ }
-{
-    let mut smallest = corner[0];
-    let mut i = 1;
-    while i < corner.len() {
-        smallest = smaller(corner[i], smallest);
-        i += 1;
-    }
-    smallest
-}
-
-fn high(corner: &[u16]) -> u16
-    ensures { λ r. ⌜ r ≡ greatest (λ i. getD (now (corner .entry)) i 0) (length (now (corner .entry))) ⌝ }
-{
-    let mut largest = 0;
-    let mut i = 0;
-    while i < corner.len() {
-        largest = larger(corner[i], largest);
-        i += 1;
-    }
-    largest
-}
-
 // The area of a room. A side is at most 65535.
 fn area(room: Room) -> u64
     requires { ⌜ (room .left ≤ room .right) × (room .bottom ≤ room .top) ⌝ }
@@ -188,10 +142,10 @@ fn uncovered(left: &[u16], bottom: &[u16], right: &[u16], top: &[u16]) -> bool
     ensures { λ r. ⌜ Tells r (Uncovered (roomsIn (now (left .entry)) (now (bottom .entry)) (now (right .entry)) (now (top .entry)))) ⌝ }
 {
     let outline = Room {
-        left: low(left),
-        bottom: low(bottom),
-        right: high(right),
-        top: high(top),
+        left: rooms::lowest(left),
+        bottom: rooms::lowest(bottom),
+        right: rooms::highest(right),
+        top: rooms::highest(top),
     };
     areas(left, bottom, right, top) != area(outline)
 }

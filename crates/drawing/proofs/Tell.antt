@@ -26,13 +26,6 @@ pub tells-iff : (A B : Type 0) (t : Bool) → (A → B) → (B → A) → Tells 
 tells-iff A B true f g h = f h
 tells-iff A B false f g h = λ b. h (g b)
 
--- a Bool that is known
-pub told-true : (A : Type 0) (t : Bool) → t ≡ true → Tells t A → A
-told-true A t e h = rw e at h
-
-pub told-false : (A : Type 0) (t : Bool) → t ≡ false → Tells t A → ¬ A
-told-false A t e h = rw e at h
-
 ite-yes : {A B : Type 0} (d : Dec A) (x y : B) → A → ite d x y ≡ x
 ite-yes (yes a) x y h = refl
 ite-yes (no f) x y h = absurd (f h)

@@ -76,6 +76,13 @@ unfolding holds
 holds-tells (yes a) = a
 holds-tells (no h) = h
 
+-- a Bool that is known
+pub told-true : (A : Type 0) (t : Bool) → t ≡ true → Tells t A → A
+told-true A t e h = rw e at h
+
+pub told-false : (A : Type 0) (t : Bool) → t ≡ false → Tells t A → ¬ A
+told-false A t e h = rw e at h
+
 pub tells-same : (A : Type 0) (b c : Bool) → Tells b A → Tells c A → b ≡ c
 tells-same A true true s t = refl
 tells-same A true false s t = absurd (t s)

@@ -1,5 +1,4 @@
 -- Laws that the functions' proofs cite.
-pub mod Extremes
 pub mod Searching
 pub mod Ranking
 pub mod Listing

@@ -5,7 +5,6 @@ ghost use mathlib.Core.List.{List};
 ghost use Prim.Native.Nat.{ℕ, _≤_, _<_};
 ghost use lib.ListN.{length, getD, take};
 ghost use Rattle.drawing.specs.declared.Room.{Room};
-ghost use Rattle.rooms.specs.Outline.{least, greatest};
 ghost use Rattle.rooms.specs.Causes.{AcceptedRooms};
 ghost use Rattle.rooms.specs.LabelList.{labelList};
 ghost use Rattle.rooms.specs.Corners.{roomsOf, OneLength};
@@ -14,39 +13,6 @@ ghost use Rattle.starts.specs.Listed.{Listed};
 ghost use Rattle.starts.specs.Starts.{numberAt, Search};
 ghost use Rattle.orders.specs.Ranked.{Ranked};
 ghost use Rattle.orders.specs.LabelsAndPositions.{PositionsAt, LabelsAt, LabelsAndPositions};
-
-// ---- the outline's corners
-
-// The least of the numbers: the left or the bottom of the outline.
-fn lowest(numbers: &[u16]) -> u16
-    requires { ⌜ 1 ≤ length (now numbers) ⌝ }
-    ensures { λ r. ⌜ r ≡ least (numberAt (now (numbers .entry))) (length (now (numbers .entry))) ⌝ }
-{
-    let mut low = numbers[0];
-    let mut i = 0;
-    while i < numbers.len() {
-        if numbers[i] < low {
-            low = numbers[i];
-        }
-        i += 1;
-    }
-    low
-}
-
-// The greatest of the numbers: the top of the outline.
-fn highest(numbers: &[u16]) -> u16
-    ensures { λ r. ⌜ r ≡ greatest (numberAt (now (numbers .entry))) (length (now (numbers .entry))) ⌝ }
-{
-    let mut high = 0;
-    let mut i = 0;
-    while i < numbers.len() {
-        if high < numbers[i] {
-            high = numbers[i];
-        }
-        i += 1;
-    }
-    high
-}
 
 // ---- rooms along a line
 
@@ -185,8 +151,8 @@ pub fn positions(left: &[u16], bottom: &[u16], right: &[u16], top: &[u16], ranks
     ensures size { λ _. ⌜ length (now (ranks .exit)) ≡ 255 ⌝ }
     ensures each { λ _. ⌜ PositionsAt (roomsOf (now (left .entry)) (now (bottom .entry)) (now (right .entry)) (now (top .entry)) (length (now (left .entry)))) (length (now (left .entry))) (now (ranks .exit)) ⌝ }
 {
-    let x = lowest(left);
-    let y = lowest(bottom);
+    let x = rooms::lowest(left);
+    let y = rooms::lowest(bottom);
     ranks_from(left, bottom, right, top, x, y, ranks);
 }
 
@@ -196,8 +162,8 @@ pub fn labels(left: &[u16], bottom: &[u16], right: &[u16], top: &[u16], ranks: &
     ensures size { λ _. ⌜ length (now (ranks .exit)) ≡ 255 ⌝ }
     ensures each { λ _. ⌜ LabelsAt (roomsOf (now (left .entry)) (now (bottom .entry)) (now (right .entry)) (now (top .entry)) (length (now (left .entry)))) (length (now (left .entry))) (now (ranks .exit)) ⌝ }
 {
-    let x = lowest(left);
-    let y = highest(top);
+    let x = rooms::lowest(left);
+    let y = rooms::highest(top);
     ranks_from(left, top, right, bottom, x, y, ranks);
 }
 

@@ -7,7 +7,7 @@ use Rattle.rooms.specs.Causes.{RoomSize, Overlap, Uncovered, FourMeet}
 use Rattle.checks.specs.declared.Verdict.the-variants as verdict
 use Rattle.checks.specs.CornerLists.{roomsIn}
 use Rattle.checks.specs.Verdict.{VerdictOf}
-use Rattle.checks.proofs.Tell.{told-true, told-false}
+use Rattle.finite.specs.Decide.{told-true, told-false}
 use Rattle.checks.proofs.Places.{count}
 use borrow.Author.Needs.{needs}
 use Rattle.checks.proofs.judge.Statement.{statement}

@@ -7,32 +7,32 @@ use Rattle.checks.proofs.uncovered.Statement.{statement}
 use Rattle.checks.proofs.uncovered.Tie as tie
 use Rattle.checks.proofs.uncovered.Reads as reads
 use Rattle.checks.proofs.uncovered.Lts as lts
-use Rattle.checks.proofs.low.Reads as low-reads
-use Rattle.checks.proofs.high.Reads as high-reads
+use Rattle.rooms.proofs.lowest.Reads as lowest-reads
+use Rattle.rooms.proofs.highest.Reads as highest-reads
 use Rattle.checks.proofs.areas.Reads as areas-reads
 use Rattle.checks.proofs.area.Reads as area-reads
 
 -- the place where all four corners are known, and the box that they bound
 abbrev Bounded : Type 0
-Bounded = lts.After-high2 (low-reads.Asked, low-reads.Learnt, high-reads.Asked, high-reads.Learnt, areas-reads.Asked, areas-reads.Learnt, area-reads.Asked, area-reads.Learnt) reads.Pre reads.Post
+Bounded = lts.After-highest2 (lowest-reads.Asked, lowest-reads.Learnt, highest-reads.Asked, highest-reads.Learnt, areas-reads.Asked, areas-reads.Learnt, area-reads.Asked, area-reads.Learnt) reads.Pre reads.Post
 
 abbrev boxAt : Bounded → Room
-boxAt k = record { left = k .before .before .before .low .result; bottom = k .before .before .low2 .result; right = k .before .high .result; top = k .high2 .result }
+boxAt k = record { left = k .before .before .before .lowest .result; bottom = k .before .before .lowest2 .result; right = k .before .highest .result; top = k .highest2 .result }
 
 box-of : (k : Bounded) → let a = k .before .before .before .before .before .before .before .before .args in BoxOf (a .left .now) (a .bottom .now) (a .right .now) (a .top .now) (boxAt k)
-box-of k = record { left = k .before .before .before .low .ensures; bottom = k .before .before .low2 .ensures; right = k .before .high .ensures; top = k .high2 .ensures }
+box-of k = record { left = k .before .before .before .lowest .ensures; bottom = k .before .before .lowest2 .ensures; right = k .before .highest .ensures; top = k .highest2 .ensures }
 
-low-requires : tie.Need-low-requires
-low-requires c κs = search needs
+lowest-requires : tie.Need-lowest-requires
+lowest-requires c κs = search needs
 
-low-requires-2 : tie.Need-low-requires-2
-low-requires-2 c κs = search needs
+lowest-requires-2 : tie.Need-lowest-requires-2
+lowest-requires-2 c κs = search needs
 
-high-requires : tie.Need-high-requires
-high-requires c κs = search needs
+highest-requires : tie.Need-highest-requires
+highest-requires c κs = search needs
 
-high-requires-2 : tie.Need-high-requires-2
-high-requires-2 c κs = search needs
+highest-requires-2 : tie.Need-highest-requires-2
+highest-requires-2 c κs = search needs
 
 areas-requires : tie.Need-areas-requires
 areas-requires c κs = search needs
@@ -52,10 +52,10 @@ pub uncovered-spec : {M : Type 1} → statement M
 uncovered-spec =
     tie.close
     (tie.spec
-    low-requires
-    low-requires-2
-    high-requires
-    high-requires-2
+    lowest-requires
+    lowest-requires-2
+    highest-requires
+    highest-requires-2
     areas-requires
     area-requires
     returns)

@@ -1,6 +1,7 @@
 -- `touch` meets its contract. Rooms that stand side by side touch.
 -- Of others the answer is whether they are stacked.
-use Rattle.drawing.proofs.Tell.{tells-iff, told-true, told-false}
+use Rattle.finite.specs.Decide.{told-true, told-false}
+use Rattle.drawing.proofs.Tell.{tells-iff}
 use mathlib.Core.Logic.{⊎-elim, inl, inr}
 use borrow.Author.Needs.{needs}
 use Rattle.drawing.proofs.touch.Statement.{statement}

@@ -1,13 +1,13 @@
--- `low` meets its contract. The loop keeps that `smallest` is the least of the corners before `i`.
+-- `lowest` meets its contract. The loop keeps that `smallest` is the least of the corners before `i`.
 use Prim.Native.Nat.{_≤_, _-_}
 use native.Mathlib.Omega.{arith}
 use lib.ListN.{length, getD}
 use mathlib.Core.Path.{_≡_, ap, _∙_}
 use Rattle.rooms.specs.Outline.{least}
-use Rattle.checks.proofs.Scan.{least-of-one, least-more}
+use Rattle.rooms.proofs.Extremes.{least-of-one, least-more}
 use borrow.Author.Needs.{needs}
-use Rattle.checks.proofs.low.Statement.{statement}
-use Rattle.checks.proofs.low.Tie as tie
+use Rattle.rooms.proofs.lowest.Statement.{statement}
+use Rattle.rooms.proofs.lowest.Tie as tie
 
 abbrev Inv-loop : tie.InvT-loop
 Inv-loop corner smallest₀ i₀ smallest i = (i ≤ length corner) × (smallest ≡ least (λ k. getD corner k 0) i)
@@ -45,8 +45,8 @@ loop-again c =
 returns : tie.Need-returns Inv-loop μ-loop
 returns c = let here = c .before in let e : here .loop .i ≡ length (here .before .before .before .args .corner .now) = omega arith in here .loop .inv .1 ∙ ap (least _) e
 
-pub low-spec : {M : Type 1} → statement M
-low-spec =
+pub lowest-spec : {M : Type 1} → statement M
+lowest-spec =
     tie.close
     (tie.spec
     Inv-loop

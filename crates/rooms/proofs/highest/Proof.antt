@@ -1,13 +1,13 @@
--- `high` meets its contract. The loop keeps that `largest` is the greatest of the corners before `i`, and 0 where there are none.
+-- `highest` meets its contract. The loop keeps that `largest` is the greatest of the corners before `i`, and 0 where there are none.
 use Prim.Native.Nat.{_≤_, _-_}
 use native.Mathlib.Omega.{arith}
 use lib.ListN.{length, getD}
 use mathlib.Core.Path.{_≡_, refl, ap, _∙_}
 use Rattle.rooms.specs.Outline.{greatest}
-use Rattle.checks.proofs.Scan.{greatest-more}
+use Rattle.rooms.proofs.Extremes.{greatest-more}
 use borrow.Author.Needs.{needs}
-use Rattle.checks.proofs.high.Statement.{statement}
-use Rattle.checks.proofs.high.Tie as tie
+use Rattle.rooms.proofs.highest.Statement.{statement}
+use Rattle.rooms.proofs.highest.Tie as tie
 
 abbrev Inv-loop : tie.InvT-loop
 Inv-loop corner largest₀ i₀ largest i = (i ≤ length corner) × (largest ≡ greatest (λ k. getD corner k 0) i)
@@ -43,8 +43,8 @@ loop-again c =
 returns : tie.Need-returns Inv-loop μ-loop
 returns c = let here = c .before in let e : here .loop .i ≡ length (here .before .before .args .corner .now) = omega arith in here .loop .inv .1 ∙ ap (greatest _) e
 
-pub high-spec : {M : Type 1} → statement M
-high-spec =
+pub highest-spec : {M : Type 1} → statement M
+highest-spec =
     tie.close
     (tie.spec
     Inv-loop
