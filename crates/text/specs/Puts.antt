@@ -7,6 +7,7 @@ use native.Mathlib.Numerals.{add-one}
 use lib.ListN.{length, take, set, length-set, length-append, length-take}
 use lib.Seq.{take-suc-set, paste, take-paste, length-paste, take-length}
 use Rattle.io.specs.Counts.{Counts}
+use Rattle.text.specs.Decimal.{decimal}
 use Rattle.text.specs.Put.{Put}
 
 -- nothing is put
@@ -37,6 +38,10 @@ module _ {before middle after part rest : List ℕ} {at next end : ℕ} where
 -- the same part by another name
 pub put-as : {before after part other : List ℕ} {at end : ℕ} → part ≡ other → Put before at part after end → Put before at other after end
 put-as {before} {after} {part} {other} {at} {end} e p = subst (λ (l : List ℕ). Put before at l after end) e p
+
+-- a word and a number, which has another name
+pub put-value-as : {before after : List ℕ} {at end number other : ℕ} (word : List ℕ) → Put before at (word ++ decimal number) after end → number ≡ other → Put before at (word ++ decimal other) after end
+put-value-as word p e = put-as (ap (λ (n : ℕ). word ++ decimal n) e) p
 
 -- a text that ends within its store can be taken from it
 pub put-counts : {before after part : List ℕ} {at end : ℕ} → end ≤ length before → Put before at part after end → Counts end after

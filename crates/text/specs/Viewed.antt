@@ -85,38 +85,52 @@ module _ (labels : List ℕ) {n : ℕ} (size : length labels ≡ n) (k : ℕ) (i
     top = (front-corner (λ j. topAt (labelAt labels) (length labels) (suc j)) tops t ∙ ap (λ (m : ℕ). topAt (labelAt labels) m (suc k)) size) i;
   }
 
--- ---- the text
-module _ (view : View) (bytes : List ℕ) (byte : kindOf bytes ≤ 255) where
+-- ---- a record that is read
+module _ (bytes : List ℕ) (byte : kindOf bytes ≤ 255) where
   answer-checked : recordAnswer bytes 255 255 255 255 255 ≡ checked Refused bytes (Read (kindOf bytes))
   answer-checked = ap (λ (good : RecordAnswer). checked Refused bytes good) (if-neg (dec-short (kindOf bytes) 255 255 255 255 255) (enough (kindOf bytes) byte) _ _)
 
+  kind-read : (n : ℕ) → Read n ≡ recordAnswer bytes 255 255 255 255 255 → (n ≡ kindOf bytes) × (1 ≤ n)
+  kind-read n e = go (sorted bytes)
+    where
+      go : Sorted bytes → (n ≡ kindOf bytes) × (1 ≤ n)
+      go (refused cause) = never (e ∙ answer-checked ∙ sym (refused-checked Refused bytes _ cause))
+      go (read all) =
+          let same : n ≡ kindOf bytes = ap countOf (e ∙ answer-checked ∙ sym (readable-checked Refused bytes _ all)) in
+          let some : ¬ (kindOf bytes ≡ 0) = λ none. all .kind (inr none) in
+          (same, omega arith)
+
+  module _ (labels left bottom right top : List ℕ) (n : ℕ) (w : Written bytes (Read n) labels left bottom right top) where
+    pub read-some : 1 ≤ n
+    read-some = kind-read n (w .answered) .1
+
+    size-read : length (labelsOf bytes) ≡ n
+    size-read = length-labels bytes ∙ sym (kind-read n (w .answered) .0)
+
+    -- the labels and rooms at the first n positions are the record's
+    pub label-read : (k : ℕ) → k < n → labelAt labels (suc k) ≡ labelAt (labelsOf bytes) (suc k)
+    label-read k h = front-label (labelsOf bytes) size-read k h (drop n (w .before)) (w .list)
+
+    pub room-read : (k : ℕ) → k < n → roomIn left bottom right top (suc k) ≡ roomAt (labelAt (labelsOf bytes)) n (suc k)
+    room-read k h = front-room (labelsOf bytes) size-read k h (drop n (w .before)) (drop n (w .before)) (drop n (w .before)) (drop n (w .before)) (w .lefts) (w .bottoms) (w .rights) (w .tops)
+
+-- ---- the text
+module _ (view : View) (bytes : List ℕ) (byte : kindOf bytes ≤ 255) where
   listed : textFor view (Read (kindOf bytes)) (labelsOf bytes) ≡ viewOf view (labelsOf bytes)
   listed = ap (λ (n : ℕ). textFor view (Read n) (labelsOf bytes)) (sym (length-labels bytes))
 
   -- the text for the answer is the record's
   text-answer : textFor view (recordAnswer bytes 255 255 255 255 255) (labelsOf bytes) ≡ printed view bytes
-  text-answer = ap (λ (answer : RecordAnswer). textFor view answer (labelsOf bytes)) answer-checked ∙ go (sorted bytes)
+  text-answer = ap (λ (answer : RecordAnswer). textFor view answer (labelsOf bytes)) (answer-checked bytes byte) ∙ go (sorted bytes)
     where
       go : Sorted bytes → textFor view (checked Refused bytes (Read (kindOf bytes))) (labelsOf bytes) ≡ printed view bytes
       go (refused cause) = ap (λ (answer : RecordAnswer). textFor view answer (labelsOf bytes)) (sym (refused-checked Refused bytes (Read (kindOf bytes)) cause)) ∙ refused-checked (λ refusal. refusedLine (numberOf refusal)) bytes (viewOf view (labelsOf bytes)) cause
       go (read all) = ap (λ (answer : RecordAnswer). textFor view answer (labelsOf bytes)) (sym (readable-checked Refused bytes (Read (kindOf bytes)) all)) ∙ listed ∙ readable-checked (λ refusal. refusedLine (numberOf refusal)) bytes (viewOf view (labelsOf bytes)) all
-
-  kind-read : (n : ℕ) → Read n ≡ recordAnswer bytes 255 255 255 255 255 → n ≡ kindOf bytes
-  kind-read n e = go (sorted bytes)
-    where
-      go : Sorted bytes → n ≡ kindOf bytes
-      go (refused cause) = never (e ∙ answer-checked ∙ sym (refused-checked Refused bytes _ cause))
-      go (read all) = ap countOf (e ∙ answer-checked ∙ sym (readable-checked Refused bytes _ all))
 
   pub refused-text : (answer : RecordAnswer) (refusal : Refusal) (number : ℕ) → answer ≡ Refused refusal → answer ≡ recordAnswer bytes 255 255 255 255 255 → number ≡ numberOf refusal → refusedLine number ≡ printed view bytes
   refused-text answer refusal number is e m = ap refusedLine m ∙ ap (λ (r : RecordAnswer). textFor view r (labelsOf bytes)) (sym is ∙ e) ∙ text-answer
 
   pub read-text : Local view → (labels left bottom right top : List ℕ) (n : ℕ) → Written bytes (Read n) labels left bottom right top → view (labelAt labels) (roomIn left bottom right top) n ≡ printed view bytes
   read-text here labels left bottom right top n w =
-      here (labelAt labels) (labelAt (labelsOf bytes)) (roomIn left bottom right top) (roomAt (labelAt (labelsOf bytes)) n) n
-      (λ k h. front-label (labelsOf bytes) size k h (drop n (w .before)) (w .list))
-      (λ k h. front-room (labelsOf bytes) size k h (drop n (w .before)) (drop n (w .before)) (drop n (w .before)) (drop n (w .before)) (w .lefts) (w .bottoms) (w .rights) (w .tops))
+      here (labelAt labels) (labelAt (labelsOf bytes)) (roomIn left bottom right top) (roomAt (labelAt (labelsOf bytes)) n) n (label-read bytes byte labels left bottom right top n w) (room-read bytes byte labels left bottom right top n w)
       ∙ ap (λ (r : RecordAnswer). textFor view r (labelsOf bytes)) (w .answered) ∙ text-answer
-    where
-      size : length (labelsOf bytes) ≡ n
-      size = length-labels bytes ∙ sym (kind-read n (w .answered))
