@@ -162,7 +162,7 @@ fn four_meet(left: &[u16], bottom: &[u16], right: &[u16], top: &[u16]) -> bool
     requires { ⌜ length (now left) ≤ 255 ⌝ }
     ensures { λ r. ⌜ Tells r (FourMeet (roomsIn (now (left .entry)) (now (bottom .entry)) (now (right .entry)) (now (top .entry)))) ⌝ }
 {
-    let mut newest = [0u8; 256];
+    let mut newest = [0u8; 1024];
     let mut older = [0u8; 255];
     starts::list_starts(left, bottom, &mut newest, &mut older);
     let mut i = 0;

@@ -21,7 +21,7 @@ fn walk(
     on: &[u16],
     from: &[u16],
     to: &[u16],
-    newest: &[u8; 256],
+    newest: &[u8; 1024],
     older: &[u8; 255],
     line: u16,
     point: u16,
@@ -49,9 +49,9 @@ fn next(
     bottom: &[u16],
     right: &[u16],
     top: &[u16],
-    by_left: &[u8; 256],
+    by_left: &[u8; 1024],
     older_by_left: &[u8; 255],
-    by_bottom: &[u8; 256],
+    by_bottom: &[u8; 1024],
     older_by_bottom: &[u8; 255],
     room: usize,
 ) -> usize
@@ -120,9 +120,9 @@ fn ranks_from(
         → (i : ℕ) → i < length (now (left .entry)) → getD (now (ranks .exit)) i 0 ≡ f i) ⌝ }
 {
     let n = left.len();
-    let mut by_left = [0u8; 256];
+    let mut by_left = [0u8; 1024];
     let mut older_by_left = [0u8; 255];
-    let mut by_bottom = [0u8; 256];
+    let mut by_bottom = [0u8; 1024];
     let mut older_by_bottom = [0u8; 255];
     starts::list_starts(left, top, &mut by_left, &mut older_by_left);
     starts::list_starts(bottom, right, &mut by_bottom, &mut older_by_bottom);

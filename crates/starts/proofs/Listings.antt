@@ -15,11 +15,11 @@ module _ (on from : ℕ → ℕ) where
   bucketAt i = bucketOf (on i) (from i)
 
   -- ---- one room more
-  pub listed-none : {newest older : List ℕ} → newest ≡ replicate 256 0 → length older ≡ 255 → Listed 0 on from newest older
+  pub listed-none : {newest older : List ℕ} → newest ≡ replicate 1024 0 → length older ≡ 255 → Listed 0 on from newest older
   listed-none {newest} {older} e h = record {
-    newest-size = ap length e ∙ length-replicate {A = ℕ} 256 0;
+    newest-size = ap length e ∙ length-replicate {A = ℕ} 1024 0;
     older-size = h;
-    first = λ b l. subst (Newest on from b 0) (sym (ap (λ (xs : List ℕ). getD xs b 0) e ∙ getD-replicate {A = ℕ} 256 b 0 0 l)) (
+    first = λ b l. subst (Newest on from b 0) (sym (ap (λ (xs : List ℕ). getD xs b 0) e ∙ getD-replicate {A = ℕ} 1024 b 0 0 l)) (
         record { within = omega arith; own = λ i q. absurd (omega arith); none-after = λ j g m. absurd (omega arith) }
         );
     rest = λ i l. absurd (omega arith);
@@ -36,7 +36,7 @@ module _ (on from : ℕ → ℕ) where
     none-after = λ j g m e. elim (eq-or-ne j k) [ inl s ↦ q (sym e ∙ ap bucketAt s) | inr s ↦ w .none-after j g (omega arith) e ];
   }
 
-  pub listed-more : {k : ℕ} {newest older : List ℕ} → Listed k on from newest older → k < 255 → bucketAt k < 256
+  pub listed-more : {k : ℕ} {newest older : List ℕ} → Listed k on from newest older → k < 255 → bucketAt k < 1024
       → Listed (k + 1) on from (set newest (bucketAt k) (k + 1)) (set older k (getD newest (bucketAt k) 0))
   listed-more {k} {newest} {older} l h small = record {
     newest-size = length-set newest (bucketAt k) (k + 1) ∙ l .newest-size;
@@ -66,7 +66,7 @@ module _ (on from : ℕ → ℕ) where
   same-bucket : {line point : ℕ} (j : ℕ) → (on j ≡ line) × (from j ≡ point) → bucketAt j ≡ bucketOf line point
   same-bucket j (e, f) = λ i. bucketOf (e i) (f i)
 
-  pub passed-first : {n line point bucket at : ℕ} {newest older : List ℕ} → Listed n on from newest older → (bucket ≡ bucketOf line point) × (bucket < 256) → at ≡ getD newest bucket 0 → Passed n line point at
+  pub passed-first : {n line point bucket at : ℕ} {newest older : List ℕ} → Listed n on from newest older → (bucket ≡ bucketOf line point) × (bucket < 1024) → at ≡ getD newest bucket 0 → Passed n line point at
   passed-first {bucket = bucket} {newest = newest} l (e, small) is =
       let w = subst (Newest on from bucket _) (sym is) (l .first bucket small) in
       record { within = w .within; own = λ i q. w .own i q ∙ e; none = λ j g m q. w .none-after j g m (same-bucket j q ∙ sym e) }

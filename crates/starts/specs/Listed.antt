@@ -6,7 +6,7 @@ use lib.ListN.{length, getD}
 
 -- the bucket of a line and a point
 unfoldable pub bucketOf : (line point : ℕ) → ℕ
-bucketOf line point = (line * 40503 + point * 11003) / 128 % 256
+bucketOf line point = (line * 40503 + point * 11003) / 128 % 1024
 
 -- of the first k rooms, `at` is the newest of the bucket, counted from 1; or it is 0, and none is
 pub record Newest (on from : ℕ → ℕ) (bucket k at : ℕ) : Type 0 where
@@ -16,7 +16,7 @@ pub record Newest (on from : ℕ → ℕ) (bucket k at : ℕ) : Type 0 where
 
 -- the first n rooms are listed: each bucket's newest, and before each room its bucket's next older
 pub record Listed (n : ℕ) (on from : ℕ → ℕ) (newest older : List ℕ) : Type 0 where
-  pub newest-size : length newest ≡ 256
+  pub newest-size : length newest ≡ 1024
   pub older-size : length older ≡ 255
-  pub first : (bucket : ℕ) → bucket < 256 → Newest on from bucket n (getD newest bucket 0)
+  pub first : (bucket : ℕ) → bucket < 1024 → Newest on from bucket n (getD newest bucket 0)
   pub rest : (i : ℕ) → i < n → Newest on from (bucketOf (on i) (from i)) i (getD older i 0)

@@ -12,16 +12,16 @@ fn wide(byte: u8) -> usize
     byte as usize
 }
 
-// The bucket under which a room that starts on the line at the point is listed. Any number below 256 would do; this one spreads the rooms well.
+// The bucket under which a room that starts on the line at the point is listed. Any number below 1024 would do; this one spreads the rooms well.
 fn bucket(line: u16, point: u16) -> usize
-    ensures { λ r. ⌜ (r ≡ bucketOf line point) × (r < 256) ⌝ }
+    ensures { λ r. ⌜ (r ≡ bucketOf line point) × (r < 1024) ⌝ }
 {
-    (line as usize * 40503 + point as usize * 11003) / 128 % 256
+    (line as usize * 40503 + point as usize * 11003) / 128 % 1024
 }
 
 // Lists every room under its bucket: `newest` has the last room of each bucket, and `older` the one before each room, both counted from 1, and 0 for none.
-pub fn list_starts(on: &[u16], from: &[u16], newest: &mut [u8; 256], older: &mut [u8; 255])
-    requires { ⌜ (length (now from) ≡ length (now on)) × (length (now on) ≤ 255) ⌝ ∗ ⌜ (now newest ≡ replicate 256 0) × (length (now older) ≡ 255) ⌝ }
+pub fn list_starts(on: &[u16], from: &[u16], newest: &mut [u8; 1024], older: &mut [u8; 255])
+    requires { ⌜ (length (now from) ≡ length (now on)) × (length (now on) ≤ 255) ⌝ ∗ ⌜ (now newest ≡ replicate 1024 0) × (length (now older) ≡ 255) ⌝ }
     ensures { λ _. ⌜ Listed (length (now (on .entry))) (numberAt (now (on .entry))) (numberAt (now (from .entry))) (now (newest .exit)) (now (older .exit)) ⌝ }
 {
     let mut i = 0;
@@ -37,7 +37,7 @@ pub fn list_starts(on: &[u16], from: &[u16], newest: &mut [u8; 256], older: &mut
 pub fn look_up(
     on: &[u16],
     from: &[u16],
-    newest: &[u8; 256],
+    newest: &[u8; 1024],
     older: &[u8; 255],
     line: u16,
     point: u16,

@@ -1,4 +1,4 @@
--- `bucket` meets its contract: the arithmetic fits, and a remainder by 256 is below 256.
+-- `bucket` meets its contract: the arithmetic fits, and a remainder by 1024 is below 1024.
 use mathlib.Core.Path.{refl}
 use native.Mathlib.Omega.{arith}
 use Rattle.starts.specs.Listed.{bucketOf}
