@@ -231,6 +231,24 @@ fn corners(room: Room) -> [(u16, u16); 4] {
     ]
 }
 
+/// A box: as large as there is, or some other one that leaves room enough.
+pub fn some_box(random: &mut Random) -> Room {
+    let mut side = || {
+        let width = random.pick(&[65_535, 65_535, 30_000, 4000]);
+        let anywhere = random.between(0, 65_535 - width);
+        let first = random.pick(&[0, 65_535 - width, anywhere]);
+        let end = |number| u16::try_from(number).expect("at most 65,535");
+        (end(first), end(first + width))
+    };
+    let ((left, right), (bottom, top)) = (side(), side());
+    Room {
+        left,
+        bottom,
+        right,
+        top,
+    }
+}
+
 /// A number from `first` to `last`, both included.
 pub(crate) fn between(first: u16, last: u16, random: &mut Random) -> u16 {
     let number = random.between(usize::from(first), usize::from(last));

@@ -5,6 +5,9 @@ use crate::tally::Tally;
 use reference::Refusal;
 use std::fmt;
 
+/// A Rust version of the call.
+type Version = fn(&[u8], &mut [u8]) -> Result<usize, Refusal>;
+
 impl Tally {
     /// Hands `labels` and a record slice of `capacity` bytes to the library,
     /// to the definitions and to the fast Rust version, and gives the answer
@@ -14,10 +17,30 @@ impl Tally {
     ///
     /// If they differ in their answer or in any byte in or around the slices.
     pub fn labels_in(&mut self, labels: &[u8], capacity: usize) -> Result<usize, Refusal> {
-        // The definitions cannot see what stands around, so one answer is both.
-        let [answer, _] = SURROUNDINGS.map(|around| agreed(labels, capacity, around));
-        self.count(&answer);
-        answer
+        self.labels_in_as(reference::labels_in, labels, capacity)
+    }
+
+    /// As [`Self::labels_in`], but leaves out the definitions, which take long
+    /// for long lists.
+    ///
+    /// # Panics
+    ///
+    /// As there.
+    pub fn labels_in_quickly(&mut self, labels: &[u8], capacity: usize) -> Result<usize, Refusal> {
+        self.labels_in_as(reference::fast::labels_in, labels, capacity)
+    }
+
+    /// Holds the library and the fast Rust version to another version.
+    fn labels_in_as(
+        &mut self,
+        version: Version,
+        labels: &[u8],
+        capacity: usize,
+    ) -> Result<usize, Refusal> {
+        // A Rust version cannot see what stands around, so one answer is all.
+        let answers = SURROUNDINGS.map(|around| agreed(version, labels, capacity, around));
+        self.count(&answers[0]);
+        answers[0]
     }
 
     /// Compares a list whose answer is known: `record`, in a slice of just
@@ -97,11 +120,16 @@ impl fmt::Display for Outcome {
     }
 }
 
-/// The answer that the library and both Rust versions agree on.
-fn agreed(labels: &[u8], capacity: usize, around: Surroundings) -> Result<usize, Refusal> {
+/// The answer of a Rust version that the library and the fast one agree on.
+fn agreed(
+    version: Version,
+    labels: &[u8],
+    capacity: usize,
+    around: Surroundings,
+) -> Result<usize, Refusal> {
     let mut answer = Err(Refusal::ListLength);
-    let defined = Outcome::of(labels, capacity, around, |labels, record| {
-        answer = reference::labels_in(labels, record);
+    let expected = Outcome::of(labels, capacity, around, |labels, record| {
+        answer = version(labels, record);
         answer.map_err(|refusal| u32::from(refusal.number()))
     });
     let fast = Outcome::of(labels, capacity, around, |labels, record| {
@@ -111,13 +139,13 @@ fn agreed(labels: &[u8], capacity: usize, around: Surroundings) -> Result<usize,
         nenturxo::labels_in(labels, record).map_err(|refusal| refusal.number())
     });
     assert!(
-        library == defined && fast == defined && library.is_clean(),
+        library == expected && fast == expected && library.is_clean(),
         "the versions differ, or bytes changed that must not\n\
-         labels      {labels:?}\n\
-         capacity    {capacity}\n\
-         library     {library}\n\
-         definitions {defined}\n\
-         fast        {fast}"
+         labels   {labels:?}\n\
+         capacity {capacity}\n\
+         library  {library}\n\
+         expected {expected}\n\
+         fast     {fast}"
     );
     answer
 }

@@ -1,5 +1,5 @@
 //! Slices that are lent to a call as the middle parts of larger buffers, so
-//! that whatever a call does outside of them shows.
+//! that whatever a call does outside of them shows, and as whole buffers.
 
 use crate::rooms_in::of_library;
 use std::fmt;
@@ -13,10 +13,13 @@ pub struct Surroundings {
     margin: usize,
 }
 
-/// Each case is run in both. They have no byte in common, so nothing that is
-/// written can hide behind a byte that was there before, and an answer that
-/// heeds bytes around the slices shows. The slices are aligned differently.
-pub const SURROUNDINGS: [Surroundings; 2] = [
+/// Each case is run in all of them. They have no byte in common, so nothing
+/// that is written can hide behind a byte that was there before, and an answer
+/// that heeds bytes around the slices shows. The slices are aligned
+/// differently. In the last one nothing stands around: each slice is an
+/// allocation of its own, so that a memory checker sees what is read or
+/// written past its ends.
+pub const SURROUNDINGS: [Surroundings; 3] = [
     Surroundings {
         fill: 0xa5,
         margin: 24,
@@ -24,6 +27,10 @@ pub const SURROUNDINGS: [Surroundings; 2] = [
     Surroundings {
         fill: 0x5a,
         margin: 29,
+    },
+    Surroundings {
+        fill: 0x3c,
+        margin: 0,
     },
 ];
 

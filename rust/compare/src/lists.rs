@@ -1,5 +1,7 @@
 //! Lists in bulk.
 
+use reference::{record_of, TRIPLES};
+
 /// Every list of `length` entries from 0 to `greatest`.
 pub fn every_list(greatest: u8, length: u32) -> impl Iterator<Item = Vec<u8>> {
     let base = usize::from(greatest) + 1;
@@ -34,4 +36,27 @@ fn each_order(labels: &mut [u8], fixed: usize, visit: &mut impl FnMut(&[u8])) {
 #[must_use]
 pub fn record_length(n: usize) -> usize {
     1 + (3 * n).saturating_sub(3).div_ceil(8)
+}
+
+/// The records of the sheet's worked plans, the first nine of which are
+/// accepted.
+#[must_use]
+pub fn worked_records() -> [Vec<u8>; 15] {
+    [
+        vec![0x01],
+        vec![0x02, 0x40],
+        vec![0x02, 0xa0],
+        vec![0x04, 0x47, 0x00],
+        vec![0x05, 0x31, 0x70],
+        vec![0x06, 0x30, 0x7e],
+        vec![0x06, 0x36, 0x2e],
+        vec![0x07, 0x0e, 0x8d, 0xc0],
+        record_of(255, &[TRIPLES[1]; 254]),
+        vec![0x02, 0x00],
+        vec![0x02, 0x60],
+        vec![0x02, 0xc1],
+        vec![0x02],
+        vec![0x01, 0x00],
+        vec![0x00],
+    ]
 }

@@ -113,10 +113,10 @@ impl Tally {
     ///
     /// If they differ in their answer or in any entry in or around the slices.
     pub fn record_in(&mut self, given: &Given, capacities: Capacities) -> Result<usize, Refusal> {
-        // The definitions cannot see what stands around, so one answer is both.
-        let [answer, _] = SURROUNDINGS.map(|around| agreed(given, capacities, around));
-        self.count(&answer);
-        answer
+        // The definitions cannot see what stands around, so one answer is all.
+        let answers = SURROUNDINGS.map(|around| agreed(given, capacities, around));
+        self.count(&answers[0]);
+        answers[0]
     }
 
     /// Compares a record that must be accepted with the given labels: in
@@ -164,7 +164,7 @@ impl Tally {
 
     /// Hands many records to the library that must all be refused with
     /// `refusal`, with one set of output slices for all. This is quicker, and
-    /// leaves out the fast Rust version and the second surroundings.
+    /// leaves out the fast Rust version and the other surroundings.
     ///
     /// # Panics
     ///

@@ -84,6 +84,28 @@ pub fn is_suited(room: &Room, plan: &[Room]) -> bool {
             || plan.iter().any(|other| other.top > room.top))
 }
 
+/// Puts one of the four numbers of a room at an end of what there is, at a
+/// line of another room, or a step further. The list is not empty.
+pub fn change_a_corner(rooms: &mut [Room], random: &mut Random) {
+    let other = random.pick(rooms);
+    let at = random.below(rooms.len());
+    let room = &mut rooms[at];
+    let number = random.pick(&[
+        0,
+        u16::MAX,
+        other.left,
+        other.top,
+        room.left.wrapping_sub(1),
+        room.top.wrapping_add(1),
+    ]);
+    match random.below(4) {
+        0 => room.left = number,
+        1 => room.bottom = number,
+        2 => room.right = number,
+        _ => room.top = number,
+    }
+}
+
 /// One of the rooms that fit, by its place.
 fn some_room(rooms: &[Room], fits: impl Fn(&Room) -> bool, random: &mut Random) -> usize {
     let places: Vec<usize> = (0..rooms.len()).filter(|&at| fits(&rooms[at])).collect();

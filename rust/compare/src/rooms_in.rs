@@ -26,8 +26,19 @@ impl GivenRooms {
         Self { rooms, answer }
     }
 
+    /// The list of these rooms, answered by the fast Rust version. For long
+    /// lists the definitions take long.
+    #[must_use]
+    pub fn quick(rooms: impl Into<Vec<Room>>) -> Self {
+        let rooms = rooms.into();
+        let answer = written(rooms.len(), |[record, labels, positions]| {
+            reference::fast::rooms_in(&rooms, record, labels, positions)
+        });
+        Self { rooms, answer }
+    }
+
     /// The list of these rooms, whose answer is known from the way in which it
-    /// was made. For long lists the definitions take long.
+    /// was made.
     #[must_use]
     pub fn known(rooms: Vec<Room>, answer: Result<Numbering, Refusal>) -> Self {
         Self { rooms, answer }
@@ -69,10 +80,10 @@ impl Tally {
         given: &GivenRooms,
         capacities: Capacities,
     ) -> Result<usize, Refusal> {
-        // The answer does not depend on what stands around, so one is both.
-        let [answer, _] = SURROUNDINGS.map(|around| agreed(given, capacities, around));
-        self.count(&answer);
-        answer
+        // The answer does not depend on what stands around, so one is all.
+        let answers = SURROUNDINGS.map(|around| agreed(given, capacities, around));
+        self.count(&answers[0]);
+        answers[0]
     }
 
     /// Compares the rooms of a plan as [`Self::rooms`] does, with the answer
@@ -130,9 +141,19 @@ pub fn rooms(corners: &[[u16; 4]]) -> Vec<Room> {
 /// As [`nenturxo::rooms_in`].
 pub fn library_numbering(rooms: &[Room]) -> Result<Numbering, nenturxo::Refusal> {
     let rooms: Vec<nenturxo::Room> = rooms.iter().copied().map(of_library).collect();
+    written(rooms.len(), |[record, labels, positions]| {
+        nenturxo::rooms_in(&rooms, record, labels, positions)
+    })
+}
+
+/// What a call writes for `n` rooms to slices that are long enough.
+fn written<R>(
+    n: usize,
+    call: impl FnOnce([&mut [u8]; 3]) -> Result<usize, R>,
+) -> Result<Numbering, R> {
     let mut record = vec![0; nenturxo::RECORD_CAPACITY];
-    let [mut labels, mut positions] = [(); 2].map(|()| vec![0; rooms.len()]);
-    let length = nenturxo::rooms_in(&rooms, &mut record, &mut labels, &mut positions)?;
+    let [mut labels, mut positions] = [(); 2].map(|()| vec![0; n]);
+    let length = call([&mut record, &mut labels, &mut positions])?;
     record.truncate(length);
     Ok(Numbering {
         record,

@@ -3,6 +3,7 @@
 use reference::Refusal;
 use std::fmt;
 use std::io::Write;
+use std::ops::AddAssign;
 
 /// Counts the cases that were compared, by their answers. What compares a case
 /// of a call is in that call's module.
@@ -24,6 +25,12 @@ impl Tally {
             accepted: 0,
             refused: [0; 18],
         }
+    }
+
+    /// How many cases were compared.
+    #[must_use]
+    pub fn cases(&self) -> usize {
+        self.cases
     }
 
     /// How many cases were accepted.
@@ -58,19 +65,55 @@ impl Tally {
     }
 }
 
+impl AddAssign for Tally {
+    /// Counts the cases of another tally too.
+    fn add_assign(&mut self, other: Self) {
+        self.cases += other.cases;
+        self.accepted += other.accepted;
+        for (count, more) in self.refused.iter_mut().zip(other.refused) {
+            *count += more;
+        }
+    }
+}
+
 impl fmt::Display for Tally {
     fn fmt(&self, f: &mut fmt::Formatter<'_>) -> fmt::Result {
-        let Self { name, cases, .. } = self;
-        write!(f, "{name}: {cases} cases compared")?;
-        write!(f, " ({} accepted", self.accepted)?;
-        for (number, count) in self.refused.iter().enumerate().filter(|(_, &c)| c > 0) {
-            write!(f, ", {count} refused with {number}")?;
+        write!(f, "{}: {} cases compared", self.name, grouped(self.cases))?;
+        write!(f, " ({} accepted", grouped(self.accepted))?;
+        for (number, &count) in self.refused.iter().enumerate().filter(|(_, &c)| c > 0) {
+            write!(f, ", {} refused with {number}", grouped(count))?;
         }
         write!(f, ")")
     }
 }
 
+/// A number as it is read, with a comma before each three digits.
+#[must_use]
+pub fn grouped(number: usize) -> String {
+    let digits = number.to_string();
+    let mut text = String::new();
+    for (place, digit) in digits.char_indices() {
+        if place > 0 && (digits.len() - place).is_multiple_of(3) {
+            text.push(',');
+        }
+        text.push(digit);
+    }
+    text
+}
+
 /// Prints a line even where the test harness keeps back what is printed.
 pub fn report(line: impl fmt::Display) {
     let _ = writeln!(std::io::stderr(), "{line}");
+}
+
+#[cfg(test)]
+mod tests {
+    use super::grouped;
+
+    #[test]
+    fn digits_stand_in_threes() {
+        let numbers = [0, 7, 999, 1_000, 65_535, 123_456, 1_234_567];
+        let read = ["0", "7", "999", "1,000", "65,535", "123,456", "1,234,567"];
+        assert_eq!(numbers.map(grouped), read);
+    }
 }

@@ -39,6 +39,7 @@ pub use planlist::planlist;
 pub use question::{question, Relation};
 pub use record::{record_of, triples_in};
 pub use refusal::Refusal;
-pub use rooms::{equivalent, numbering_of, rooms_in, Numbering};
+pub use rooms::{equivalent, numbering_of, rooms_in, segments, Numbering, Segment};
 pub use runs::{labels_of, Runs, TRIPLES};
+pub use touch::{Edge, Line};
 pub use triple::{triples, Triple};

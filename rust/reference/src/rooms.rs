@@ -7,6 +7,7 @@ mod ranks;
 mod segments;
 
 pub use equivalent::equivalent;
+pub use segments::{segments, Segment};
 
 use crate::plan::front;
 use crate::{record_of, triples, Refusal, Room};

@@ -4,15 +4,18 @@ use crate::Room;
 
 /// An edge of a room: a piece of a line from one place on it to another.
 #[derive(Clone, Copy, Debug, PartialEq, Eq, PartialOrd, Ord)]
-pub(crate) struct Edge {
-    pub(crate) line: Line,
-    pub(crate) from: u16,
-    pub(crate) to: u16,
+pub struct Edge {
+    /// The line that it is on.
+    pub line: Line,
+    /// Where it begins on that line.
+    pub from: u16,
+    /// Where it ends.
+    pub to: u16,
 }
 
 /// A grid line.
 #[derive(Clone, Copy, Debug, PartialEq, Eq, PartialOrd, Ord)]
-pub(crate) enum Line {
+pub enum Line {
     /// At this many steps across.
     Vertical(u16),
     /// At this many steps up.

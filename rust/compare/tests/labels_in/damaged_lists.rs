@@ -1,6 +1,7 @@
 //! Baxter lists with damage: each refusal for its own cause, and in the
 //! order 1, 6, 7, 8, 15 where there are several.
 
+use compare::label_damage::{put_a_label_outside, repeat_a_label, two_places};
 use compare::lists::record_length;
 use compare::walk::biased_list;
 use compare::{Random, Tally};
@@ -30,34 +31,6 @@ fn barred_list(random: &mut Random) -> Vec<u8> {
         labels.swap(one, other);
     }
     labels
-}
-
-/// Two different places of a list.
-fn two_places(labels: &[u8], random: &mut Random) -> (usize, usize) {
-    let one = random.below(labels.len());
-    let further = random.between(1, labels.len() - 1);
-    (one, (one + further) % labels.len())
-}
-
-/// Puts the label of one place at another.
-fn repeat_a_label(labels: &mut [u8], random: &mut Random) {
-    let (from, to) = two_places(labels, random);
-    labels[to] = labels[from];
-}
-
-/// Puts 0 or a label above n at some place.
-fn put_a_label_outside(labels: &mut [u8], random: &mut Random) {
-    let n = labels.len();
-    let place = random.below(n);
-    let above = if n < 255 { n + 1 } else { 0 };
-    let entry = match random.below(4) {
-        0 => 0,
-        1 => above,
-        2 if n < 255 => 255,
-        _ if n < 255 => random.between(n + 1, 255),
-        _ => 0,
-    };
-    labels[place] = u8::try_from(entry).expect("an entry is a byte");
 }
 
 /// Compares `lists` damaged lists, each with slices of four lengths, which

@@ -3,10 +3,10 @@
 //! these tests fail.
 
 use compare::damage::Damage;
-use compare::planlist::Program;
+use compare::lists::worked_records;
 use compare::walk::{biased_list, random_list};
-use compare::{Random, Tally};
-use reference::{record_of, Refusal, TRIPLES};
+use compare::{Program, Random, Tally};
+use reference::Refusal;
 
 #[test]
 fn listing_printed_in_the_sheet() {
@@ -20,7 +20,7 @@ fn listing_printed_in_the_sheet() {
     assert_eq!(reference::planlist(&record), printed);
 
     let name = "listing printed in the sheet";
-    let program = Program::named();
+    let program = Program::planlist();
     let mut tally = Tally::new(name);
     tally.planlist(&program, &record);
     tally.finish(1);
@@ -29,26 +29,10 @@ fn listing_printed_in_the_sheet() {
 #[test]
 fn worked_records_of_the_sheet() {
     let name = "listings of the sheet's worked records";
-    let program = Program::named();
+    let program = Program::planlist();
     let mut tally = Tally::new(name);
-    let records: [&[u8]; 15] = [
-        &[0x01],
-        &[0x02, 0x40],
-        &[0x02, 0xa0],
-        &[0x04, 0x47, 0x00],
-        &[0x05, 0x31, 0x70],
-        &[0x06, 0x30, 0x7e],
-        &[0x06, 0x36, 0x2e],
-        &[0x07, 0x0e, 0x8d, 0xc0],
-        &[0x02, 0x00],
-        &[0x02, 0x60],
-        &[0x02, 0xc1],
-        &[0x02],
-        &[0x01, 0x00],
-        &[0x00],
-        &record_of(255, &[TRIPLES[1]; 254]),
-    ];
-    for record in records {
+    let records = worked_records();
+    for record in &records {
         tally.planlist(&program, record);
     }
     assert_eq!(tally.accepted(), 9);
@@ -58,7 +42,7 @@ fn worked_records_of_the_sheet() {
 #[test]
 fn short_inputs() {
     let name = "listings of short inputs";
-    let program = Program::named();
+    let program = Program::planlist();
     let mut tally = Tally::new(name);
     tally.planlist(&program, &[]);
     for byte in 0..=255 {
@@ -74,7 +58,7 @@ fn short_inputs() {
 fn random_records() {
     const RECORDS: usize = 1_000;
     let name = "listings of random records";
-    let program = Program::named();
+    let program = Program::planlist();
     let mut tally = Tally::new(name);
     let mut random = Random::from_seed(121);
     for n in 1..=255 {
@@ -92,7 +76,7 @@ fn random_records() {
 fn damaged_records() {
     const RECORDS: usize = 20;
     let name = "listings of damaged records";
-    let program = Program::named();
+    let program = Program::planlist();
     let mut tally = Tally::new(name);
     let mut random = Random::from_seed(122);
     for damage in Damage::all() {
@@ -108,7 +92,7 @@ fn damaged_records() {
 #[test]
 fn long_inputs() {
     let name = "listings of long inputs";
-    let program = Program::named();
+    let program = Program::planlist();
     let mut tally = Tally::new(name);
     let mut random = Random::from_seed(123);
     let lengths = [96, 97, 98, 99, 100, 194, 4_096, 65_536, 65_633, 1_000_000];
@@ -129,7 +113,7 @@ fn long_inputs() {
 #[test]
 fn inputs_that_come_in_pieces() {
     let name = "listings of inputs in pieces";
-    let program = Program::named();
+    let program = Program::planlist();
     let mut tally = Tally::new(name);
     let mut random = Random::from_seed(124);
     let record = random_list(255, &mut random).record();

@@ -1,7 +1,7 @@
 //! Lists with damage: each refusal for its own cause, and in the order
 //! 1, 2, 3, 4, 5 where there are several.
 
-use compare::room_damage::{is_suited, RoomDamage};
+use compare::room_damage::{change_a_corner, is_suited, RoomDamage};
 use compare::walk::biased_list;
 use compare::{Floorplan, GivenRooms, Random, Tally};
 use reference::Refusal;
@@ -87,22 +87,7 @@ fn one_corner_changed() {
             plan.stretch(&mut random);
         }
         let mut rooms = plan.rooms();
-        let other = random.pick(&rooms);
-        let room = &mut rooms[random.below(n)];
-        let number = random.pick(&[
-            0,
-            u16::MAX,
-            other.left,
-            other.top,
-            room.left.wrapping_sub(1),
-            room.top.wrapping_add(1),
-        ]);
-        match random.below(4) {
-            0 => room.left = number,
-            1 => room.bottom = number,
-            2 => room.right = number,
-            _ => room.top = number,
-        }
+        change_a_corner(&mut rooms, &mut random);
         tally.rooms(&GivenRooms::new(rooms));
     }
     for refusal in [

@@ -1,25 +1,7 @@
 //! Plans that are cut again and again, also into pinwheels.
 
+use compare::floorplan::some_box;
 use compare::{Floorplan, Random, Tally};
-use reference::Room;
-
-/// A box: as large as there is, or some other one that leaves room enough.
-fn some_box(random: &mut Random) -> Room {
-    let mut side = || {
-        let width = random.pick(&[65_535, 65_535, 30_000, 4000]);
-        let anywhere = random.between(0, 65_535 - width);
-        let first = random.pick(&[0, 65_535 - width, anywhere]);
-        let end = |number| u16::try_from(number).expect("at most 65,535");
-        (end(first), end(first + width))
-    };
-    let ((left, right), (bottom, top)) = (side(), side());
-    Room {
-        left,
-        bottom,
-        right,
-        top,
-    }
-}
 
 /// A nested plan of `n` rooms, shuffled, and in some rounds slid.
 fn some_plan(n: usize, round: usize, random: &mut Random) -> Floorplan {

@@ -8,7 +8,7 @@ use crate::Room;
 /// A segment: like an edge, a piece of a line from one place on it to
 /// another.
 #[derive(Clone, Copy, Debug, PartialEq, Eq, PartialOrd, Ord)]
-pub(super) struct Segment(Edge);
+pub struct Segment(pub Edge);
 
 /// The segments that support a room, each named for the side on which it
 /// holds the room's edge.
@@ -34,6 +34,16 @@ pub(super) fn supports_of(rooms: &[Room]) -> Vec<Supports> {
                 top,
             }
         })
+        .collect()
+}
+
+/// The segments of a floorplan, each once.
+#[must_use]
+pub fn segments(rooms: &[Room]) -> BTreeSet<Segment> {
+    let supports = supports_of(rooms);
+    supports
+        .iter()
+        .flat_map(|s| [s.left, s.right, s.bottom, s.top])
         .collect()
 }
 
@@ -66,17 +76,9 @@ impl Pieces {
 mod tests {
     use std::collections::BTreeSet;
 
-    use super::{supports_of, Segment};
+    use super::{segments, supports_of, Segment};
     use crate::touch::{Edge, Line};
     use crate::{drawing, Room};
-
-    fn distinct(rooms: &[Room]) -> BTreeSet<Segment> {
-        let supports = supports_of(rooms);
-        supports
-            .iter()
-            .flat_map(|s| [s.left, s.right, s.bottom, s.top])
-            .collect()
-    }
 
     #[test]
     fn the_segments_of_a_pinwheel() {
@@ -88,7 +90,7 @@ mod tests {
         let upright = upright.map(|(x, from, to)| segment(Line::Vertical(x), from, to));
         let level = level.map(|(y, from, to)| segment(Line::Horizontal(y), from, to));
         let expected: BTreeSet<Segment> = upright.into_iter().chain(level).collect();
-        assert_eq!(distinct(&rooms), expected);
+        assert_eq!(segments(&rooms), expected);
     }
 
     #[test]
@@ -113,6 +115,6 @@ mod tests {
         assert_eq!(supports[3].right, supports[4].left);
         assert_ne!(supports[0].right, supports[3].right);
         assert_eq!(supports[0].left, supports[3].left);
-        assert_eq!(distinct(&rooms).len(), 5 + 3);
+        assert_eq!(segments(&rooms).len(), 5 + 3);
     }
 }

@@ -1,0 +1,31 @@
+//! Damage that is done to label lists.
+
+use crate::random::Random;
+
+/// Two different places of a list, which has two at least.
+pub fn two_places(labels: &[u8], random: &mut Random) -> (usize, usize) {
+    let one = random.below(labels.len());
+    let further = random.between(1, labels.len() - 1);
+    (one, (one + further) % labels.len())
+}
+
+/// Puts the label of one place at another. There are two places at least.
+pub fn repeat_a_label(labels: &mut [u8], random: &mut Random) {
+    let (from, to) = two_places(labels, random);
+    labels[to] = labels[from];
+}
+
+/// Puts 0 or a label above n at some place.
+pub fn put_a_label_outside(labels: &mut [u8], random: &mut Random) {
+    let n = labels.len();
+    let place = random.below(n);
+    let above = if n < 255 { n + 1 } else { 0 };
+    let entry = match random.below(4) {
+        0 => 0,
+        1 => above,
+        2 if n < 255 => 255,
+        _ if n < 255 => random.between(n + 1, 255),
+        _ => 0,
+    };
+    labels[place] = u8::try_from(entry).expect("an entry is a byte");
+}

@@ -1,0 +1,107 @@
+//! The four calls.
+
+use crate::{labels, records, rooms, BATCH};
+use compare::{Random, Tally};
+use reference::Refusal;
+
+/// A call of the library.
+pub struct Call {
+    name: &'static str,
+    /// Compares some inputs, a number of which [`BATCH`] is a multiple.
+    compare_some: fn(&mut Tally, &mut Random),
+    /// What it can be refused with, in the sheet's order.
+    refusals: &'static [Refusal],
+}
+
+/// The calls of the library.
+pub const CALLS: [Call; 4] = [
+    Call {
+        name: "Labels in",
+        compare_some: labels::compare_some,
+        refusals: &[
+            Refusal::ListLength,
+            Refusal::LabelOutside,
+            Refusal::LabelTwice,
+            Refusal::BarredPattern,
+            Refusal::SliceShort,
+        ],
+    },
+    Call {
+        name: "Record in",
+        compare_some: records::compare_some,
+        refusals: &[
+            Refusal::NoKind,
+            Refusal::BodyShort,
+            Refusal::BytesAfter,
+            Refusal::SpareBit,
+            Refusal::RunMissing,
+            Refusal::RunsLeft,
+            Refusal::SliceShort,
+        ],
+    },
+    Call {
+        name: "Question",
+        compare_some: records::ask_some,
+        refusals: &[
+            Refusal::NoKind,
+            Refusal::BodyShort,
+            Refusal::BytesAfter,
+            Refusal::SpareBit,
+            Refusal::RunMissing,
+            Refusal::RunsLeft,
+            Refusal::PositionOutside,
+            Refusal::PositionsEqual,
+        ],
+    },
+    Call {
+        name: "Rooms in",
+        compare_some: rooms::compare_some,
+        refusals: &[
+            Refusal::ListLength,
+            Refusal::EmptyRoom,
+            Refusal::SharedSquare,
+            Refusal::OpenSquare,
+            Refusal::FourRoomsMeet,
+            Refusal::SliceShort,
+        ],
+    },
+];
+
+impl Call {
+    /// No input yet.
+    pub fn tally(&self) -> Tally {
+        Tally::new(self.name)
+    }
+
+    /// Compares a batch of inputs.
+    ///
+    /// # Panics
+    ///
+    /// At the first difference.
+    pub fn compare(&self, tally: &mut Tally, random: &mut Random) {
+        let end = tally.cases() + BATCH;
+        while tally.cases() < end {
+            (self.compare_some)(tally, random);
+        }
+    }
+
+    /// Stops unless a fifth of the inputs was accepted, and of the others
+    /// every refusal that the call can give has its share and no other one
+    /// came up.
+    ///
+    /// # Panics
+    ///
+    /// If not so.
+    pub fn check(&self, tally: &Tally) {
+        let (name, cases) = (self.name, tally.cases());
+        assert!(5 * tally.accepted() >= cases, "{name}: too few accepted");
+        for refusal in Refusal::ALL {
+            let (count, number) = (tally.refused(refusal), refusal.number());
+            if self.refusals.contains(&refusal) {
+                assert!(1_000 * count >= cases, "{name}: too few with {number}");
+            } else {
+                assert_eq!(count, 0, "{name}: refused with {number}");
+            }
+        }
+    }
+}
