@@ -1,11 +1,11 @@
 -- What reading a record tells the two calls: the refusal is theirs too, or the record is not refused for what both look at.
 use mathlib.Core.Bool.{Bool}
 use mathlib.Core.List.{List}
-use mathlib.Core.Logic.{_≢_, _⊎_, inl, inr, if-neg}
+use mathlib.Core.Logic.{_≢_, _⊎_, inl, inr}
 use mathlib.Core.Path.{_≡_, sym, ap, subst, _∙_}
-use Prim.Native.Nat.{ℕ, _≤_, _<_}
+use Prim.Native.Nat.{ℕ, _≤_, _<_, min}
 use native.Mathlib.Omega.{arith}
-use Rattle.finite.specs.Decide.{Tells}
+use Rattle.finite.specs.Decide.{Tells, stable}
 use Rattle.record.specs.Labels.{labelAt}
 use Rattle.record.specs.Read.{kindOf, labelsOf}
 use Rattle.record.specs.Checked.{checked, Readable, Sorted, refused, read, sorted, refused-checked, readable-checked}
@@ -18,7 +18,6 @@ use Rattle.drawing.specs.Relation.{relationOf}
 use Rattle.drawing.specs.declared.Relation.{Relation}
 use Rattle.answers.specs.Demand1.{short, written, demand1-record-answer, Touching, outside, same, related, demand1-question-answer}
 use Rattle.answers.specs.Answer.{Short, dec-short, recordAnswer, Outside, questionAnswer}
-use Rattle.answers.specs.declared.RecordAnswer.{RecordAnswer}
 use Rattle.answers.specs.declared.RecordAnswer.the-variants as recordIn
 use Rattle.answers.specs.declared.QuestionAnswer.the-variants as question
 
@@ -32,6 +31,25 @@ long-enough {n} {labels} {left} {bottom} {right} {top} enough =
     let e : ¬ (top < n) = λ h. enough (inr (inr (inr (inr h)))) in
     (omega arith, omega arith, omega arith, omega arith, omega arith)
 
+-- the least of five numbers of places, taken two at a time: a record with more rooms finds a slice too short, and no other does
+pub record Least (least labels left bottom right top : ℕ) : Type 0 where
+  pub too-few : (n : ℕ) → least < n → Short n labels left bottom right top
+  pub enough : (n : ℕ) → n ≤ least → ¬ Short n labels left bottom right top
+
+pub least-of : {labels left bottom right top starts ends both least : ℕ} → starts ≡ min left bottom → ends ≡ min right top → both ≡ min starts ends → least ≡ min labels both
+    → Least least labels left bottom right top
+least-of {labels} {left} {bottom} {right} {top} {least = least} p q r s = record {
+  too-few = λ n h. stable (dec-short n labels left bottom right top) (λ none. let (a, b, c, d, e) = long-enough none in omega (arith, p, q, r, s, a, b, c, d, e));
+  enough = enough;
+}
+  where
+    enough : (n : ℕ) → n ≤ least → ¬ Short n labels left bottom right top
+    enough n h (inl l) = omega (arith, s)
+    enough n h (inr (inl l)) = omega (arith, p, r, s)
+    enough n h (inr (inr (inl l))) = omega (arith, p, r, s)
+    enough n h (inr (inr (inr (inl l)))) = omega (arith, q, r, s)
+    enough n h (inr (inr (inr (inr l)))) = omega (arith, q, r, s)
+
 abbrev Is-read : Reading → Type 0
 Is-read (reading.Read n) = Unit
 Is-read (reading.Refused refusal) = ⊥
@@ -40,10 +58,6 @@ abbrev refusalOf : Reading → Refusal → Refusal
 refusalOf (reading.Read n) other = other
 refusalOf (reading.Refused refusal) other = refusal
 
-abbrev countOf : Reading → ℕ
-countOf (reading.Read n) = n
-countOf (reading.Refused refusal) = 0
-
 -- a record that is not read is refused by every call alike
 pub same-refusal : {A : Type 0} (refuse : Refusal → A) (bytes : List ℕ) (good : A) (refusal : Refusal) → reading.Refused refusal ≡ readingOf bytes → refuse refusal ≡ checked refuse bytes good
 same-refusal refuse bytes good refusal e = go (sorted bytes)
@@ -51,35 +65,6 @@ same-refusal refuse bytes good refusal e = go (sorted bytes)
     go : Sorted bytes → refuse refusal ≡ checked refuse bytes good
     go (refused cause) = ap (λ (r : Reading). refuse (refusalOf r refusal)) (e ∙ sym (refused-checked reading.Refused bytes (reading.Read (kindOf bytes)) cause)) ∙ refused-checked refuse bytes good cause
     go (read all) = absurd (subst Is-read (sym (e ∙ sym (readable-checked reading.Refused bytes (reading.Read (kindOf bytes)) all))) tt)
-
--- a record that is read has as many rooms as its first byte says
-pub was-read : (bytes : List ℕ) (n : ℕ) → reading.Read n ≡ readingOf bytes → (n ≡ kindOf bytes) × Readable bytes
-was-read bytes n e = go (sorted bytes)
-  where
-    go : Sorted bytes → (n ≡ kindOf bytes) × Readable bytes
-    go (refused cause) = absurd (subst Is-read (e ∙ sym (refused-checked reading.Refused bytes (reading.Read (kindOf bytes)) cause)) tt)
-    go (read all) = (ap countOf (e ∙ sym (readable-checked reading.Refused bytes (reading.Read (kindOf bytes)) all)), all)
-
--- ---- 255 places are enough for any record
-abbrev pub readingFor : RecordAnswer → Reading
-readingFor (recordIn.Read n) = reading.Read n
-readingFor (recordIn.Refused refusal) = reading.Refused refusal
-
-module _ (bytes : List ℕ) (byte : kindOf bytes ≤ 255) where
-  enough : ¬ Short (kindOf bytes) 255 255 255 255 255
-  enough (inl s) = omega arith
-  enough (inr (inl s)) = omega arith
-  enough (inr (inr (inl s))) = omega arith
-  enough (inr (inr (inr (inl s)))) = omega arith
-  enough (inr (inr (inr (inr s)))) = omega arith
-
-  -- so Record in reads and refuses what reading does
-  pub reading-same : readingFor (recordAnswer bytes 255 255 255 255 255) ≡ readingOf bytes
-  reading-same = ap (λ (good : RecordAnswer). readingFor (checked recordIn.Refused bytes good)) (if-neg (dec-short (kindOf bytes) 255 255 255 255 255) enough _ _) ∙ go (sorted bytes)
-    where
-      go : Sorted bytes → readingFor (checked recordIn.Refused bytes (recordIn.Read (kindOf bytes))) ≡ readingOf bytes
-      go (refused cause) = ap readingFor (sym (refused-checked recordIn.Refused bytes _ cause)) ∙ refused-checked reading.Refused bytes _ cause
-      go (read all) = ap readingFor (sym (readable-checked recordIn.Refused bytes _ all)) ∙ readable-checked reading.Refused bytes _ all
 
 module _ {bytes : List ℕ} {n : ℕ} (kind : n ≡ kindOf bytes) (readable : Readable bytes) where
   -- ---- the question's answers

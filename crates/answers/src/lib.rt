@@ -1,13 +1,14 @@
 // What a record is asked for: Record in gives its labels and its rooms, the question how two of its rooms stand to each other.
 ghost use mathlib.Core.Path.{_≡_};
-ghost use Prim.Native.Nat.{_≤_};
+ghost use Prim.Native.Nat.{_-_, _≤_, min};
 ghost use lib.ListN.{length, getD};
 ghost use Rattle.finite.specs.Decide.{Tells};
 ghost use Rattle.finite.specs.Fill.{filled};
 ghost use Rattle.record.specs.Read.{labelsOf};
-ghost use Rattle.drawing.specs.Corners.{leftsOf, bottomsOf, rightsOf, topsOf};
-ghost use Rattle.answers.specs.Answer.{Short, recordAnswer, Few, written, questionAnswer, Outside};
+ghost use Rattle.drawing.specs.Corners.{leftsOf, bottomsOf, rightsOf, topsOf, roomIn};
+ghost use Rattle.answers.specs.Answer.{recordAnswer, Few, written, questionAnswer, Outside};
 use drawing::Relation;
+use drawing::Room;
 use reading::Reading;
 use record::Position;
 use record::Refusal;
@@ -43,23 +44,14 @@ fn put_front(numbers: &[u8; 255], n: usize, slice: &mut [u16])
     }
 }
 
-// Whether one of the five output slices has fewer than `n` places.
-fn short(n: usize, labels: usize, left: usize, bottom: usize, right: usize, top: usize) -> bool
-    ensures { λ r. ⌜ Tells r (Short n labels left bottom right top) ⌝ }
+// The smaller of two numbers.
+fn smaller(a: usize, b: usize) -> usize
+    ensures { λ r. ⌜ r ≡ min a b ⌝ }
 {
-    if labels < n {
-        return true;
+    if a < b {
+        return a;
     }
-    if left < n {
-        return true;
-    }
-    if bottom < n {
-        return true;
-    }
-    if right < n {
-        return true;
-    }
-    top < n
+    b
 }
 
 // Record in: the labels and the corners of the rooms by position, from the front of their slices; or the refusal, and the slices as they were.
@@ -78,63 +70,20 @@ pub fn record_in(
     ensures rights { λ r. ⌜ now (right .exit) ≡ written r (rightsOf (labelsOf (now («record» .entry)))) (now (right .entry)) ⌝ }
     ensures tops { λ r. ⌜ now (top .exit) ≡ written r (topsOf (labelsOf (now («record» .entry)))) (now (top .entry)) ⌝ }
 {
-    let mut triples = [0u8; 255];
-    let mut lower = [0u8; 255];
     let mut lefts = [0u8; 255];
     let mut bottoms = [0u8; 255];
-    match reading::check(record, &mut triples, &mut lower, &mut lefts, &mut bottoms) {
+    let starts = smaller(left.len(), bottom.len());
+    let ends = smaller(right.len(), top.len());
+    let fit = smaller(labels.len(), smaller(starts, ends));
+    match reading::read(record, 0, fit, &mut lefts, &mut bottoms, labels, right, top) {
         Reading::Refused(refusal) => RecordAnswer::Refused(refusal),
         Reading::Read(n) => {
-            if short(
-                n,
-                labels.len(),
-                left.len(),
-                bottom.len(),
-                right.len(),
-                top.len(),
-            ) {
+            if fit < n {
                 return RecordAnswer::Refused(Refusal::ShortOutput);
             }
-            reading::finish(record, n, &triples, &lower, labels, right, top);
             put_front(&lefts, n, left);
             put_front(&bottoms, n, bottom);
             RecordAnswer::Read(n)
-        }
-    }
-}
-
-// The question: positions are handed in as any number. Record in is asked with 255 places for each number, which every record has room in.
-pub fn question(record: &[u8], first: u8, second: u8) -> QuestionAnswer
-    ensures { λ r. ⌜ r ≡ questionAnswer (now («record» .entry)) first second ⌝ }
-{
-    let mut labels = [0u8; 255];
-    let mut left = [0u16; 255];
-    let mut bottom = [0u16; 255];
-    let mut right = [0u16; 255];
-    let mut top = [0u16; 255];
-    match record_in(
-        record,
-        &mut labels,
-        &mut left,
-        &mut bottom,
-        &mut right,
-        &mut top,
-    ) {
-        RecordAnswer::Refused(refusal) => QuestionAnswer::Refused(refusal),
-        RecordAnswer::Read(n) => {
-            if outside(first, n) {
-                return QuestionAnswer::Refused(Refusal::PositionOutside);
-            }
-            if outside(second, n) {
-                return QuestionAnswer::Refused(Refusal::PositionOutside);
-            }
-            if first == second {
-                return QuestionAnswer::Refused(Refusal::SamePosition);
-            }
-            let relation = drawing::relation_of(&labels, Position(first), Position(second));
-            let one = drawing::room_in(&left, &bottom, &right, &top, Position(first));
-            let other = drawing::room_in(&left, &bottom, &right, &top, Position(second));
-            QuestionAnswer::Related(relation, drawing::touch(one, other))
         }
     }
 }
@@ -147,4 +96,78 @@ fn outside(position: u8, n: usize) -> bool
         return true;
     }
     n < position as usize
+}
+
+// The index of the earlier of two positions; 0 where one of them is 0, which is none.
+fn earlier(first: u8, second: u8) -> usize
+    ensures { λ r. ⌜ (r ≤ first - 1) × (r ≤ second - 1) ⌝ }
+{
+    if first == 0 {
+        return 0;
+    }
+    if second == 0 {
+        return 0;
+    }
+    if first < second {
+        return drawing::index(Position(first));
+    }
+    drawing::index(Position(second))
+}
+
+// The room at a position, of which the corners stand in arrays by position.
+fn room_at(
+    left: &[u8; 255],
+    bottom: &[u8; 255],
+    right: &[u16; 255],
+    top: &[u16; 255],
+    position: Position,
+) -> Room
+    requires { ⌜ 1 ≤ position .0 ⌝ }
+    ensures { λ r. ⌜ r ≡ roomIn (now (left .entry)) (now (bottom .entry)) (now (right .entry)) (now (top .entry)) (position .0) ⌝ }
+{
+    let i = drawing::index(position);
+    Room {
+        left: corner(left[i]),
+        bottom: corner(bottom[i]),
+        right: right[i],
+        top: top[i],
+    }
+}
+
+// The question: positions are handed in as any number. The record is read back to the earlier of them, into 255 places for each number, which every record has room in.
+pub fn question(record: &[u8], first: u8, second: u8) -> QuestionAnswer
+    ensures { λ r. ⌜ r ≡ questionAnswer (now («record» .entry)) first second ⌝ }
+{
+    let mut left = [0u8; 255];
+    let mut bottom = [0u8; 255];
+    let mut labels = [0u8; 255];
+    let mut right = [0u16; 255];
+    let mut top = [0u16; 255];
+    match reading::read(
+        record,
+        earlier(first, second),
+        255,
+        &mut left,
+        &mut bottom,
+        &mut labels,
+        &mut right,
+        &mut top,
+    ) {
+        Reading::Refused(refusal) => QuestionAnswer::Refused(refusal),
+        Reading::Read(n) => {
+            if outside(first, n) {
+                return QuestionAnswer::Refused(Refusal::PositionOutside);
+            }
+            if outside(second, n) {
+                return QuestionAnswer::Refused(Refusal::PositionOutside);
+            }
+            if first == second {
+                return QuestionAnswer::Refused(Refusal::SamePosition);
+            }
+            let relation = drawing::relation_of(&labels, Position(first), Position(second));
+            let one = room_at(&left, &bottom, &right, &top, Position(first));
+            let other = room_at(&left, &bottom, &right, &top, Position(second));
+            QuestionAnswer::Related(relation, drawing::touch(one, other))
+        }
+    }
 }

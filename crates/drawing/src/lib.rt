@@ -5,7 +5,6 @@ ghost use Prim.Native.Nat.{suc, _≤_};
 ghost use lib.ListN.{length};
 ghost use Rattle.finite.specs.Decide.{Tells};
 ghost use Rattle.record.specs.Labels.{labelAt};
-ghost use Rattle.drawing.specs.Corners.{roomIn};
 ghost use Rattle.drawing.specs.Relation.{relationOf};
 ghost use Rattle.drawing.specs.Touch.{Overlap, SideBySide, Stacked, Touch};
 use record::Position;
@@ -29,31 +28,13 @@ pub enum Relation {
     Below,
 }
 
-// ---- one room
-
 // The index of a position: positions count from 1.
-fn index(position: Position) -> usize
+pub fn index(position: Position) -> usize
     requires { ⌜ 1 ≤ position .0 ⌝ }
     ensures { λ r. ⌜ suc r ≡ position .0 ⌝ }
 {
     position.0 as usize - 1
 }
-
-// The room at a position, of which the corners stand in lists by position.
-pub fn room_in(left: &[u16], bottom: &[u16], right: &[u16], top: &[u16], position: Position) -> Room
-    requires { ⌜ (1 ≤ position .0) × (position .0 ≤ length (now left)) × (position .0 ≤ length (now bottom)) × (position .0 ≤ length (now right)) × (position .0 ≤ length (now top)) ⌝ }
-    ensures { λ r. ⌜ r ≡ roomIn (now (left .entry)) (now (bottom .entry)) (now (right .entry)) (now (top .entry)) (position .0) ⌝ }
-{
-    let i = index(position);
-    Room {
-        left: left[i],
-        bottom: bottom[i],
-        right: right[i],
-        top: top[i],
-    }
-}
-
-// ---- two rooms
 
 // How the room at the first position stands to the one at the second. The room at the earlier position is left of the other one
 // or below it, so the one at the later position is right of the other one or above it.

@@ -135,11 +135,6 @@ left-first t n some = record {
     start : 0 ≡ n - suc (n - 1)
     start = omega arith
 
--- after the last turn the first position's label stands alone in its run, and is its lowest
-pub left-last : {t : ℕ → Triple} {n i : ℕ} {below above : List ℕ} {p q lowest : ℕ} → Left t n i below above p q lowest → i ≡ 0 → lowest ≡ labelOf t n 1
-unfolding labelOf lowerSize
-left-last {t} {n} {i} s e = let d : n - suc i ≡ n - 1 = omega arith in s .lowest-is ∙ ap (λ (d : ℕ). runsBut t n d .edge down) d ∙ omega arith
-
 -- ---- one turn
 -- a turn at index i, of which p and q are the stacks' heights with the label's own runs on them, and lowest is the current run's lowest label before it
 pub record Turned (t : ℕ → Triple) (n i : ℕ) (below above : List ℕ) (p q lowest : ℕ) (turn : Turn) : Type 0 where

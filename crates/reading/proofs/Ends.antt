@@ -7,14 +7,14 @@ use Prim.Native.Nat.{ℕ, zero, suc, _+_, _-_, _≤_, _<_}
 use native.Mathlib.Omega.{arith}
 use lib.ListN.{length, getD, set, length-set, replicate, length-replicate}
 use Rattle.bits.specs.Bit.{bit}
-use Rattle.finite.specs.Fill.{filled, Filling, filling-none, filling-down, filling-end}
+use Rattle.finite.specs.Fill.{filling-none, filling-down}
 use Rattle.record.specs.Triple.{Triple, triple}
 use Rattle.record.specs.Way.{up, down}
 use Rattle.record.specs.Decode.{bitsOf, labelOf}
 use Rattle.record.specs.Positions.{firstOf, othersOf, Entered, pushed, enteredMet, enteredBefore, enteredBut}
 use Rattle.reading.specs.declared.Turn.{Turn}
 use Rattle.reading.specs.Turn.{Says, risesBy, fallsBy}
-use Rattle.reading.specs.Passes.{endAt}
+use Rattle.reading.specs.Passes.{endAt, Written}
 use Rattle.reading.proofs.Stack.{stackOf, stack-pushed, either}
 use Rattle.reading.proofs.Told.{turnFor, says-turn}
 use Rattle.reading.proofs.Within.{entered-small}
@@ -134,12 +134,6 @@ pub ends-small : (t : ℕ → Triple) (n i : ℕ) {tops rights : List ℕ} {p q 
 ends-small t n i s = let w = entered-small t n (n - suc i) in (omega (arith, s .up-is, w .current down), omega (arith, s .right-is, w .current up))
 
 -- ---- what is written
--- from index a on, the three slices have the labels and the ends
-pub record Written (t : ℕ → Triple) (n a : ℕ) (labels₀ right₀ top₀ labels right top : List ℕ) : Type 0 where
-  pub labels-are : Filling (λ i. labelOf t n (suc i)) a n labels₀ labels
-  pub rights-are : Filling (endAt t n up) a n right₀ right
-  pub tops-are : Filling (endAt t n down) a n top₀ top
-
 pub written-first : (t : ℕ → Triple) (n : ℕ) (labels right top : List ℕ) → 1 ≤ n → Written t n (suc (n - 1)) labels right top labels right top
 written-first t n labels right top some = let e : n ≡ suc (n - 1) = omega arith in subst (λ (a : ℕ). Written t n a labels right top labels right top) e (record {
   labels-are = filling-none (λ i. labelOf t n (suc i)) n labels;
@@ -150,7 +144,7 @@ written-first t n labels right top some = let e : n ≡ suc (n - 1) = omega arit
 module _ {t : ℕ → Triple} {n : ℕ} {labels₀ right₀ top₀ labels right top : List ℕ} (long-labels : n ≤ length labels₀) (long-right : n ≤ length right₀) (long-top : n ≤ length top₀)
     {tops rights : List ℕ} {p q end-up end-right label : ℕ} where
   -- at index i comes one more of each
-  written-on : {i : ℕ} → Written t n (suc i) labels₀ right₀ top₀ labels right top → i < n → EndsAt t n i tops rights p q end-up end-right → label ≡ labelOf t n (suc i)
+  pub written-on : {i : ℕ} → Written t n (suc i) labels₀ right₀ top₀ labels right top → i < n → EndsAt t n i tops rights p q end-up end-right → label ≡ labelOf t n (suc i)
       → Written t n i labels₀ right₀ top₀ (set labels i label) (set right i end-right) (set top i end-up)
   written-on w within s l = record {
     labels-are = filling-down label (w .labels-are) within (omega arith) l;
@@ -163,12 +157,3 @@ module _ {t : ℕ → Triple} {n : ℕ} {labels₀ right₀ top₀ labels right 
   written-turned {i} w more within s l =
       let e : i ≡ suc (i - 1) = omega arith in
       subst (λ (a : ℕ). Written t n a labels₀ right₀ top₀ (set labels i label) (set right i end-right) (set top i end-up)) e (written-on w within s l)
-
-  -- at index 0, the last of them
-  pub written-last : {i : ℕ} → Written t n (suc i) labels₀ right₀ top₀ labels right top → i ≡ 0 → i < n → EndsAt t n i tops rights p q end-up end-right → label ≡ labelOf t n 1
-      → (set labels 0 label ≡ filled (λ i. labelOf t n (suc i)) n labels₀) × (set right 0 end-right ≡ filled (endAt t n up) n right₀) × (set top 0 end-up ≡ filled (endAt t n down) n top₀)
-  written-last w e within s l =
-      (filling-end (λ i. labelOf t n (suc i)) n (all .labels-are) long-labels, filling-end (endAt t n up) n (all .rights-are) long-right, filling-end (endAt t n down) n (all .tops-are) long-top)
-    where
-      all : Written t n 0 labels₀ right₀ top₀ (set labels 0 label) (set right 0 end-right) (set top 0 end-up)
-      all = written-on (subst (λ (i : ℕ). Written t n (suc i) labels₀ right₀ top₀ labels right top) e w) (omega arith) (subst (λ (i : ℕ). EndsAt t n i tops rights p q end-up end-right) e s) l

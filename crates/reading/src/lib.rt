@@ -1,21 +1,16 @@
 // Reading a record: its labels, or the refusal 9, 10, 11, 14, 12 or 13, in this order.
 ghost use mathlib.Core.Path.{_≡_};
 ghost use mathlib.Core.Bool.{true};
-ghost use mathlib.Core.List.{_++_};
 ghost use Prim.Native.Nat.{suc, _+_, _-_, _*_, _/_, _≤_, _<_};
-ghost use lib.ListN.{length, drop};
+ghost use lib.ListN.{length};
 ghost use Rattle.finite.specs.Decide.{Tells};
 ghost use Rattle.finite.specs.Search.{Some};
-ghost use Rattle.finite.specs.Fill.{filled};
 ghost use Rattle.bits.specs.Bit.{bitAt};
 ghost use Rattle.record.specs.Walk.{step as tableStep, walk, Accepted};
 ghost use Rattle.record.specs.Record.{bodyLength, tripleIn};
-ghost use Rattle.record.specs.Way.{up, down};
-ghost use Rattle.record.specs.Decode.{labelOf};
-ghost use Rattle.record.specs.Read.{labelsOf};
 ghost use Rattle.reading.specs.Turn.{Says, Changes, tripleOf};
-ghost use Rattle.reading.specs.Answer.{readingOf, Reads, Ready, triplesOf};
-ghost use Rattle.reading.specs.Passes.{endCounts, Unpacked, Noted, Lowers, endAt};
+ghost use Rattle.reading.specs.Answer.{readingOf, Reads, Ready, triplesOf, Leaves};
+ghost use Rattle.reading.specs.Passes.{endCounts, Unpacked, Noted, Lowers, Written};
 use record::Refusal;
 
 // A byte as an index.
@@ -164,23 +159,22 @@ fn forward(
     RunCounts::Counted(runs_below, runs_above)
 }
 
-// The labels from the end, where all are one run: the newest label is taken out of the current run. Of each run below, the stack has the lowest label and the
-// position, less 1, that first came to lie below it; of each run above, the label under it and the position, less 1, that first came to lie above it. The body
-// is what the contract speaks of; the triples are read as `forward` noted them.
+// The labels from the end, where all are one run, back to the one at index `earliest`: the newest label is taken out of the current run. Of each run below, the
+// stack has the lowest label and the position, less 1, that first came to lie below it; of each run above, the label under it and the position, less 1, that first
+// came to lie above it. The body is what the contract speaks of; the triples are read as `forward` noted them.
 fn backward(
     body: &[u8],
     n: usize,
+    earliest: usize,
     triples: &[u8; 255],
     lower: &[u8; 255],
     labels: &mut [u8],
     right: &mut [u16],
     top: &mut [u16],
 )
-    requires { ⌜ (1 ≤ n) × (n ≤ 255) × (length (now body) ≡ bodyLength n) × Accepted (tripleIn (now body)) n ⌝ ∗ ⌜ Unpacked (tripleIn (now body)) n (now triples) × Lowers (tripleIn (now body)) n (now lower) ⌝
+    requires { ⌜ (earliest < n) × (n ≤ 255) × (length (now body) ≡ bodyLength n) × Accepted (tripleIn (now body)) n ⌝ ∗ ⌜ Unpacked (tripleIn (now body)) n (now triples) × Lowers (tripleIn (now body)) n (now lower) ⌝
         ∗ ⌜ (n ≤ length (now labels)) × (n ≤ length (now right)) × (n ≤ length (now top)) ⌝ }
-    ensures list { λ _. ⌜ now (labels .exit) ≡ filled (λ i. labelOf (tripleIn (now (body .entry))) n (suc i)) n (now (labels .entry)) ⌝ }
-    ensures rights { λ _. ⌜ now (right .exit) ≡ filled (endAt (tripleIn (now (body .entry))) n up) n (now (right .entry)) ⌝ }
-    ensures tops { λ _. ⌜ now (top .exit) ≡ filled (endAt (tripleIn (now (body .entry))) n down) n (now (top .entry)) ⌝ }
+    ensures { λ _. ⌜ Written (tripleIn (now (body .entry))) n earliest (now (labels .entry)) (now (right .entry)) (now (top .entry)) (now (labels .exit)) (now (right .exit)) (now (top .exit)) ⌝ }
 {
     let mut below = [0u8; 255];
     let mut above = [0u8; 255];
@@ -192,7 +186,7 @@ fn backward(
     let mut end_up = n;
     let mut end_right = n;
     let mut i = n - 1;
-    while 0 < i {
+    while earliest < i {
         let label = lowest + wide(lower[i]);
         labels[i] = label as u8;
         right[i] = end_right as u16;
@@ -213,9 +207,10 @@ fn backward(
         runs_above = over - turn.falls;
         i -= 1;
     }
-    labels[0] = lowest as u8;
-    right[0] = end_right as u16;
-    top[0] = end_up as u16;
+    let label = lowest + wide(lower[earliest]);
+    labels[earliest] = label as u8;
+    right[earliest] = end_right as u16;
+    top[earliest] = end_up as u16;
 }
 
 // Whether a bit after the first `used` is set. They are the low bits of the last byte.
@@ -241,7 +236,7 @@ pub enum Reading {
 }
 
 // The first refusal of the order whose cause the record has; else how many labels it has, and what is noted of each of them for `finish`.
-pub fn check(
+fn check(
     record: &[u8],
     triples: &mut [u8; 255],
     lower: &mut [u8; 255],
@@ -284,20 +279,60 @@ pub fn check(
     }
 }
 
-// The labels of a record that is not refused, from the front of their slice, and the rights and tops of the rooms.
-pub fn finish(
+// The labels of a record that is not refused, and the rights and tops of the rooms, each at its index, from index `earliest` on; what stands before that is left.
+fn finish(
     record: &[u8],
     n: usize,
+    earliest: usize,
     triples: &[u8; 255],
     lower: &[u8; 255],
     labels: &mut [u8],
     right: &mut [u16],
     top: &mut [u16],
 )
-    requires { ⌜ Ready (now «record») n (now triples) (now lower) ⌝ ∗ ⌜ (n ≤ length (now labels)) × (n ≤ length (now right)) × (n ≤ length (now top)) ⌝ }
-    ensures list { λ _. ⌜ now (labels .exit) ≡ labelsOf (now («record» .entry)) ++ drop n (now (labels .entry)) ⌝ }
-    ensures rights { λ _. ⌜ now (right .exit) ≡ filled (endAt (triplesOf (now («record» .entry))) n up) n (now (right .entry)) ⌝ }
-    ensures tops { λ _. ⌜ now (top .exit) ≡ filled (endAt (triplesOf (now («record» .entry))) n down) n (now (top .entry)) ⌝ }
+    requires { ⌜ Ready (now «record») n (now triples) (now lower) ⌝ ∗ ⌜ (earliest < n) × (n ≤ length (now labels)) × (n ≤ length (now right)) × (n ≤ length (now top)) ⌝ }
+    ensures { λ _. ⌜ Written (triplesOf (now («record» .entry))) n earliest (now (labels .entry)) (now (right .entry)) (now (top .entry)) (now (labels .exit)) (now (right .exit)) (now (top .exit)) ⌝ }
 {
-    backward(&record[1..], n, triples, lower, labels, right, top);
+    backward(
+        &record[1..],
+        n,
+        earliest,
+        triples,
+        lower,
+        labels,
+        right,
+        top,
+    );
+}
+
+// Reading a record: the first refusal of the order whose cause it has; else how many labels it has, and of each room left and bottom. From index `earliest` on the
+// labels, rights and tops are written too, where there are `places` for all of the record's; else their slices are left as they were.
+pub fn read(
+    record: &[u8],
+    earliest: usize,
+    places: usize,
+    left: &mut [u8; 255],
+    bottom: &mut [u8; 255],
+    labels: &mut [u8],
+    right: &mut [u16],
+    top: &mut [u16],
+) -> Reading
+    requires { ⌜ (length (now left) ≡ 255) × (length (now bottom) ≡ 255) ⌝ ∗ ⌜ (places ≤ length (now labels)) × (places ≤ length (now right)) × (places ≤ length (now top)) ⌝ }
+    ensures { λ r. ⌜ (r ≡ readingOf (now («record» .entry))) × Leaves r (now («record» .entry)) earliest places (now (left .exit)) (now (bottom .exit)) (now (labels .entry)) (now (right .entry)) (now (top .entry)) (now (labels .exit)) (now (right .exit)) (now (top .exit)) ⌝ }
+{
+    let mut triples = [0u8; 255];
+    let mut lower = [0u8; 255];
+    match check(record, &mut triples, &mut lower, left, bottom) {
+        Reading::Refused(refusal) => Reading::Refused(refusal),
+        Reading::Read(n) => {
+            if places < n {
+                return Reading::Read(n);
+            }
+            if n <= earliest {
+                return Reading::Read(n);
+            }
+            finish(record, n, earliest, &triples, &lower, labels, right, top);
+            Reading::Read(n)
+        }
+    }
 }

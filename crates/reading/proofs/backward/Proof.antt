@@ -1,16 +1,18 @@
 -- `reading::backward` meets its contract. Between two turns hold Left of Back, for the labels, and EndsAt of Ends, for the ends; what is written from the back is Written.
-use mathlib.Core.Path.{_≡_, refl, subst, _∙_}
-use Prim.Native.Nat.{suc, _+_, _-_, _<_}
+use mathlib.Core.Path.{_≡_, subst}
+use Prim.Native.Nat.{ℕ, suc, _+_, _-_, _≤_, _<_}
 use native.Mathlib.Omega.{arith}
-use lib.ListN.{getD, set, length-set}
+use lib.ListN.{getD, set}
 use borrow.Author.Needs.{needs}
 use Rattle.record.specs.Record.{tripleIn}
 use Rattle.record.specs.Triple.{Triple}
+use Rattle.record.specs.Decode.{labelOf}
 use Rattle.reading.specs.Turn.{Says, tripleOf}
 use Rattle.reading.proofs.Table.{rises-small, falls-small}
 use Rattle.reading.proofs.Told.{above-small, below-small}
-use Rattle.reading.proofs.Back.{Left, left-first, left-last, label-is, label-small, Turned, turned}
-use Rattle.reading.proofs.Ends.{EndsAt, ends-first, ends-turned, ends-small, Written, written-first, written-turned, written-last}
+use Rattle.reading.proofs.Back.{Left, left-first, label-is, label-small, Turned, turned}
+use Rattle.reading.specs.Passes.{Written}
+use Rattle.reading.proofs.Ends.{EndsAt, ends-first, ends-turned, ends-small, written-first, written-on, written-turned}
 use Rattle.reading.proofs.backward.Statement.{statement}
 use Rattle.reading.proofs.backward.Tie as tie
 use Rattle.reading.proofs.backward.Reads as reads
@@ -21,12 +23,12 @@ use Rattle.reading.proofs.turn_of.Reads as turn-of-reads
 use Rattle.reading.proofs.wide.Reads as wide-reads
 
 abbrev Inv-loop : tie.InvT-loop
-Inv-loop body n triples lower labels₀ right₀ top₀ below₀ above₀ tops₀ rights₀ runs-below₀ runs-above₀ lowest₀ end-up₀ end-right₀ i₀ labels right top below above tops rights runs-below runs-above lowest end-up end-right i =
+Inv-loop body n earliest triples lower labels₀ right₀ top₀ below₀ above₀ tops₀ rights₀ runs-below₀ runs-above₀ lowest₀ end-up₀ end-right₀ i₀ labels right top below above tops rights runs-below runs-above lowest end-up end-right i =
     Left (tripleIn body) n i below above runs-below runs-above lowest × EndsAt (tripleIn body) n i tops rights runs-below runs-above end-up end-right
-    × Written (tripleIn body) n (suc i) labels₀ right₀ top₀ labels right top
+    × Written (tripleIn body) n (suc i) labels₀ right₀ top₀ labels right top × (earliest ≤ i)
 
 abbrev μ-loop : tie.MeasureT-loop
-μ-loop body n triples lower labels₀ right₀ top₀ below₀ above₀ tops₀ rights₀ runs-below₀ runs-above₀ lowest₀ end-up₀ end-right₀ i₀ labels right top below above tops rights runs-below runs-above lowest end-up end-right i =
+μ-loop body n earliest triples lower labels₀ right₀ top₀ below₀ above₀ tops₀ rights₀ runs-below₀ runs-above₀ lowest₀ end-up₀ end-right₀ i₀ labels right top below above tops rights runs-below runs-above lowest end-up end-right i =
     i
 
 -- ---- a turn, as far as it has come
@@ -85,8 +87,46 @@ turn e =
     let o = e .before .before .before .before .before in
     let l = o .before .before .before .before .before in
     let s = l .before .before .before .before .before in
-    turned (l .loop .inv .0) (s .pre .0 .3) (s .pre .0 .1) (s .args .lower .now) (s .pre .1 .0 .1) (o .before .before .wide .ensures .0) (o .before .before .before .before .loop-test .taken) (says o)
+    turned (l .loop .inv .0) (s .pre .0 .3) (s .pre .0 .1) (s .args .lower .now) (s .pre .1 .0 .1) (o .before .before .wide .ensures .0) (omega (arith, o .before .before .before .before .loop-test .taken)) (says o)
     (e .before .before .chosen-byte .ensures) (e .before .chosen-byte2 .ensures) (e .chosen .ensures)
+
+-- ---- after the last turn: what held between two turns holds at the earliest index
+last : (e : lts.After-loop (wide-reads.Asked, wide-reads.Learnt, turn-of-reads.Asked, turn-of-reads.Learnt, chosen-byte-reads.Asked, chosen-byte-reads.Learnt, chosen-reads.Asked, chosen-reads.Learnt) reads.Pre reads.Post Inv-loop μ-loop)
+    → let l = e .before in
+    let a = l .before .before .before .before .before .args in
+    let t = tripleIn (a .body .now) in
+    Left t (a .n) (a .earliest) (l .loop .below) (l .loop .above) (l .loop .runs-below) (l .loop .runs-above) (l .loop .lowest)
+    × EndsAt t (a .n) (a .earliest) (l .loop .tops) (l .loop .rights) (l .loop .runs-below) (l .loop .runs-above) (l .loop .end-up) (l .loop .end-right)
+    × Written t (a .n) (suc (a .earliest)) (a .labels .now) (a .right .now) (a .top .now) (l .loop .labels) (l .loop .right) (l .loop .top)
+last e =
+    let l = e .before in
+    let a = l .before .before .before .before .before .args in
+    let t = tripleIn (a .body .now) in
+    let same : l .loop .i ≡ a .earliest = omega (arith, e .loop-test .left, l .loop .inv .3) in
+    subst (λ (i : ℕ). Left t (a .n) i (l .loop .below) (l .loop .above) (l .loop .runs-below) (l .loop .runs-above) (l .loop .lowest)
+    × EndsAt t (a .n) i (l .loop .tops) (l .loop .rights) (l .loop .runs-below) (l .loop .runs-above) (l .loop .end-up) (l .loop .end-right)
+    × Written t (a .n) (suc i) (a .labels .now) (a .right .now) (a .top .now) (l .loop .labels) (l .loop .right) (l .loop .top)) same
+    (l .loop .inv .0, l .loop .inv .1, l .loop .inv .2)
+
+last-label : (e : lts.After-wide2 (wide-reads.Asked, wide-reads.Learnt, turn-of-reads.Asked, turn-of-reads.Learnt, chosen-byte-reads.Asked, chosen-byte-reads.Learnt, chosen-reads.Asked, chosen-reads.Learnt) reads.Pre reads.Post Inv-loop μ-loop)
+    → let l = e .before .before .before in
+    let a = l .before .before .before .before .before .args in
+    let label = l .loop .lowest + e .wide2 .result in
+    (label < 256) × (label ≡ labelOf (tripleIn (a .body .now)) (a .n) (suc (a .earliest)))
+last-label e =
+    let s = e .before .before .before .before .before .before .before .before in
+    let left = last (e .before .before) .0 in
+    (label-small left (s .pre .0 .3) (s .pre .0 .1) (s .args .lower .now) (s .pre .1 .0 .1) (e .wide2 .ensures .0), label-is left (s .pre .0 .3) (s .pre .0 .1) (s .args .lower .now) (s .pre .1 .0 .1) (e .wide2 .ensures .0))
+
+written : (e : lts.After-wide2 (wide-reads.Asked, wide-reads.Learnt, turn-of-reads.Asked, turn-of-reads.Learnt, chosen-byte-reads.Asked, chosen-byte-reads.Learnt, chosen-reads.Asked, chosen-reads.Learnt) reads.Pre reads.Post Inv-loop μ-loop)
+    → let l = e .before .before .before in
+    let a = l .before .before .before .before .before .args in
+    Written (tripleIn (a .body .now)) (a .n) (a .earliest) (a .labels .now) (a .right .now) (a .top .now) (set (l .loop .labels) (a .earliest) (l .loop .lowest + e .wide2 .result)) (set (l .loop .right) (a .earliest) (l .loop .end-right))
+    (set (l .loop .top) (a .earliest) (l .loop .end-up))
+written e =
+    let s = e .before .before .before .before .before .before .before .before in
+    let held = last (e .before .before) in
+    written-on (s .pre .1 .1 .0) (s .pre .1 .1 .1) (s .pre .1 .1 .2) (held .2) (s .pre .0 .0) (held .1) (last-label e .1)
 
 sub-i : tie.Need-sub-i Inv-loop μ-loop
 sub-i c = search needs
@@ -95,7 +135,8 @@ loop-holds : tie.Need-loop-holds Inv-loop μ-loop
 loop-holds c =
     let s = c .before .before .before .before in
     let t = tripleIn (s .args .body .now) in
-    (left-first t (s .args .n) (s .pre .0 .0), ends-first t (s .args .n) (s .pre .0 .0), written-first t (s .args .n) (s .args .labels .now) (s .args .right .now) (s .args .top .now) (s .pre .0 .0))
+    let some : 1 ≤ s .args .n = omega (arith, s .pre .0 .0) in
+    (left-first t (s .args .n) some, ends-first t (s .args .n) some, written-first t (s .args .n) (s .args .labels .now) (s .args .right .now) (s .args .top .now) some, omega (arith, s .pre .0 .0))
 
 element-copy-out-wide : tie.Need-element-copy-out-wide Inv-loop μ-loop
 element-copy-out-wide c = index-small c
@@ -218,7 +259,7 @@ sub-runs-above : tie.Need-sub-runs-above Inv-loop μ-loop
 sub-runs-above c = turn (c .before .before .before .before .before) .enough-above
 
 sub-i-2 : tie.Need-sub-i-2 Inv-loop μ-loop
-sub-i-2 c = c .before .before .before .before .before .before .before .before .before .before .before .before .before .before .loop-test .taken
+sub-i-2 c = omega (arith, c .before .before .before .before .before .before .before .before .before .before .before .before .before .before .loop-test .taken)
 
 loop-less : tie.Need-loop-less Inv-loop μ-loop
 loop-less c = omega (arith, c .before .before .before .before .before .before .before .before .before .before .before .before .before .before .loop-test .taken)
@@ -230,7 +271,7 @@ loop-again c =
     let b = o .before .before .before .before in
     let l = b .before in
     let s = l .before .before .before .before .before in
-    let more = b .loop-test .taken in
+    let more : 0 < l .loop .i = omega (arith, b .loop-test .taken) in
     let left = l .loop .inv .0 in
     let ends = l .loop .inv .1 in
     let label = label-is left (s .pre .0 .3) (s .pre .0 .1) (s .args .lower .now) (s .pre .1 .0 .1) (o .before .before .wide .ensures .0) in (
@@ -238,45 +279,53 @@ loop-again c =
       ends-turned (tripleIn (s .args .body .now)) (s .args .n) (l .loop .i) ends (room-below b) (room-above b) more (left .within) (says o) (turn e .enough-below) (turn e .enough-above)
           (c .before .before .before .chosen-byte3 .ensures) (c .before .before .chosen-byte4 .ensures),
       written-turned (s .pre .1 .1 .0) (s .pre .1 .1 .1) (s .pre .1 .1 .2) (l .loop .inv .2) more (left .within) ends label,
+      omega (arith, b .loop-test .taken),
     )
 
+element-copy-out-wide-2 : tie.Need-element-copy-out-wide-2 Inv-loop μ-loop
+element-copy-out-wide-2 c = let s = c .before .before .before .before .before .before in omega (arith, s .pre .0 .0, s .pre .0 .1)
+
+wide-requires-2 : tie.Need-wide-requires-2 Inv-loop μ-loop
+wide-requires-2 c κs = tt
+
+add-label-2 : tie.Need-add-label-2 Inv-loop μ-loop
+add-label-2 c = record { fits = omega (arith, last-label c .0) }
+
 cast-labels-2 : tie.Need-cast-labels-2 Inv-loop μ-loop
-cast-labels-2 c =
-    let l = c .before in
-    let s = l .before .before .before .before .before in
-    record { fits = omega (arith, label-small (l .loop .inv .0) (s .pre .0 .3) (s .pre .0 .1) (s .args .lower .now) (s .pre .1 .0 .1) refl) }
+cast-labels-2 c = record { fits = last-label c .0 }
 
 slice-write-labels-2 : tie.Need-slice-write-labels-2 Inv-loop μ-loop
-slice-write-labels-2 c = let l = c .before in omega (arith, l .loop .inv .0 .within, l .loop .inv .2 .labels-are .size, l .before .before .before .before .before .pre .1 .1 .0)
+slice-write-labels-2 c = let l = c .before .before .before in let s = l .before .before .before .before .before in omega (arith, s .pre .0 .0, l .loop .inv .2 .labels-are .size, s .pre .1 .1 .0)
 
 cast-right-2 : tie.Need-cast-right-2 Inv-loop μ-loop
-cast-right-2 c = record { fits = omega (arith, ends-few (c .before) .1) }
+cast-right-2 c = record { fits = omega (arith, ends-few (c .before .before .before) .1) }
+
+mul-right-2 : tie.Need-mul-right-2 Inv-loop μ-loop
+mul-right-2 c = let s = c .before .before .before .before .before .before .before .before in record { fits = omega (arith, s .pre .0 .0, s .pre .0 .1) }
 
 slice-write-right-2 : tie.Need-slice-write-right-2 Inv-loop μ-loop
-slice-write-right-2 c = let l = c .before in omega (arith, l .loop .inv .0 .within, l .loop .inv .2 .rights-are .size, l .before .before .before .before .before .pre .1 .1 .1)
+slice-write-right-2 c = let l = c .before .before .before in let s = l .before .before .before .before .before in omega (arith, s .pre .0 .0, l .loop .inv .2 .rights-are .size, s .pre .1 .1 .1)
 
 cast-top-2 : tie.Need-cast-top-2 Inv-loop μ-loop
-cast-top-2 c = record { fits = omega (arith, ends-few (c .before) .0) }
+cast-top-2 c = record { fits = omega (arith, ends-few (c .before .before .before) .0) }
+
+mul-top-2 : tie.Need-mul-top-2 Inv-loop μ-loop
+mul-top-2 c = let s = c .before .before .before .before .before .before .before .before in record { fits = omega (arith, s .pre .0 .0, s .pre .0 .1) }
 
 slice-write-top-2 : tie.Need-slice-write-top-2 Inv-loop μ-loop
-slice-write-top-2 c = let l = c .before in omega (arith, l .loop .inv .0 .within, l .loop .inv .2 .tops-are .size, l .before .before .before .before .before .pre .1 .1 .2)
+slice-write-top-2 c = let l = c .before .before .before in let s = l .before .before .before .before .before in omega (arith, s .pre .0 .0, l .loop .inv .2 .tops-are .size, s .pre .1 .1 .2)
 
 same-length : tie.Need-same-length Inv-loop μ-loop
-same-length c = let l = c .before in length-set (l .loop .labels) 0 (l .loop .lowest) ∙ l .loop .inv .2 .labels-are .size
+same-length c = written c .labels-are .size
 
 same-length-2 : tie.Need-same-length-2 Inv-loop μ-loop
-same-length-2 c = let l = c .before in length-set (l .loop .right) 0 (l .loop .end-right) ∙ l .loop .inv .2 .rights-are .size
+same-length-2 c = written c .rights-are .size
 
 same-length-3 : tie.Need-same-length-3 Inv-loop μ-loop
-same-length-3 c = let l = c .before in length-set (l .loop .top) 0 (l .loop .end-up) ∙ l .loop .inv .2 .tops-are .size
+same-length-3 c = written c .tops-are .size
 
 returns : tie.Need-returns Inv-loop μ-loop
-returns c =
-    let l = c .before in
-    let s = l .before .before .before .before .before in
-    let e : l .loop .i ≡ 0 = omega (arith, c .loop-test .left) in
-    let w = written-last (s .pre .1 .1 .0) (s .pre .1 .1 .1) (s .pre .1 .1 .2) (l .loop .inv .2) e (l .loop .inv .0 .within) (l .loop .inv .1) (left-last (l .loop .inv .0) e) in
-    (w .0, (w .1, w .2))
+returns c = written c
 
 pub backward-spec : {M : Type 1} → statement M
 backward-spec =
@@ -329,11 +378,16 @@ backward-spec =
     sub-i-2
     loop-less
     loop-again
+    element-copy-out-wide-2
+    wide-requires-2
+    add-label-2
     cast-labels-2
     slice-write-labels-2
     cast-right-2
+    mul-right-2
     slice-write-right-2
     cast-top-2
+    mul-top-2
     slice-write-top-2
     same-length
     same-length-2

@@ -1,20 +1,17 @@
 -- `reading::finish` meets its contract: a record that is not refused has the body that `backward` asks for, and what that leaves is what the record gives.
-use mathlib.Core.List.{List, _++_}
+use mathlib.Core.List.{List}
 use mathlib.Core.Logic.{inl}
 use mathlib.Core.Path.{_≡_, sym, ap, subst, _∙_}
-use Prim.Native.Nat.{ℕ, suc, _-_, _≤_}
+use Prim.Native.Nat.{ℕ, _-_, _≤_, _<_}
 use native.Mathlib.Omega.{arith}
 use lib.ListN.{length, take, drop, length-drop}
 use lib.Seq.{take-all}
 use borrow.Author.Needs.{needs}
-use Rattle.finite.specs.Fill.{filled}
 use Rattle.record.specs.Walk.{Accepted}
-use Rattle.record.specs.Way.{Way, up, down}
 use Rattle.record.specs.Record.{bodyLength, tripleIn}
-use Rattle.record.specs.Decode.{labelOf, decode}
-use Rattle.record.specs.Read.{kindOf, bodyOf, ShortBody, BytesAfter, labelsOf}
+use Rattle.record.specs.Read.{kindOf, bodyOf, ShortBody, BytesAfter}
 use Rattle.record.specs.Demand2Read.{readable-accepted}
-use Rattle.reading.specs.Passes.{Unpacked, Lowers, endAt}
+use Rattle.reading.specs.Passes.{Unpacked, Lowers, Written}
 use Rattle.reading.specs.Answer.{Ready, triplesOf}
 use Rattle.reading.proofs.finish.Statement.{statement}
 use Rattle.reading.proofs.finish.Tie as tie
@@ -27,23 +24,19 @@ body-is : (bytes : List ℕ) → take (length bytes - 1) (drop 1 bytes) ≡ body
 body-is bytes = take-all (length bytes - 1) (drop 1 bytes) (omega (arith, length-drop 1 bytes))
 
 -- what `backward` asks of it
-body-asked : {bytes : List ℕ} {n : ℕ} {numbers lower : List ℕ} → Ready bytes n numbers lower
-    → let body = take (length bytes - 1) (drop 1 bytes) in ((1 ≤ n) × (n ≤ 255) × (length body ≡ bodyLength n) × Accepted (tripleIn body) n) × (Unpacked (tripleIn body) n numbers × Lowers (tripleIn body) n lower)
-body-asked {bytes} {n} {numbers} {lower} r =
+body-asked : {bytes : List ℕ} {n earliest : ℕ} {numbers lower : List ℕ} → Ready bytes n numbers lower → earliest < n
+    → let body = take (length bytes - 1) (drop 1 bytes) in ((earliest < n) × (n ≤ 255) × (length body ≡ bodyLength n) × Accepted (tripleIn body) n) × (Unpacked (tripleIn body) n numbers × Lowers (tripleIn body) n lower)
+body-asked {bytes} {n} {earliest} {numbers} {lower} r within =
     let long : ¬ ShortBody bytes = r .readable .long in
     let short : ¬ BytesAfter bytes = r .readable .short in
     let size : length (bodyOf bytes) ≡ bodyLength (kindOf bytes) = omega arith in
-    subst (λ (body : List ℕ). ((1 ≤ n) × (n ≤ 255) × (length body ≡ bodyLength n) × Accepted (tripleIn body) n) × (Unpacked (tripleIn body) n numbers × Lowers (tripleIn body) n lower)) (sym (body-is bytes))
-    ((r .some, r .few, size ∙ ap bodyLength (sym (r .kind)), subst (Accepted (tripleIn (bodyOf bytes))) (sym (r .kind)) (readable-accepted bytes (r .readable))), (r .unpacked, r .lowers))
+    subst (λ (body : List ℕ). ((earliest < n) × (n ≤ 255) × (length body ≡ bodyLength n) × Accepted (tripleIn body) n) × (Unpacked (tripleIn body) n numbers × Lowers (tripleIn body) n lower)) (sym (body-is bytes))
+    ((within, r .few, size ∙ ap bodyLength (sym (r .kind)), subst (Accepted (tripleIn (bodyOf bytes))) (sym (r .kind)) (readable-accepted bytes (r .readable))), (r .unpacked, r .lowers))
 
--- what it leaves of the labels is the record's list, and of the ends those of its triples
-module _ {bytes : List ℕ} {n : ℕ} {numbers lower : List ℕ} (r : Ready bytes n numbers lower) (before : List ℕ) {after : List ℕ} where
-  labels-left : after ≡ filled (λ i. labelOf (tripleIn (take (length bytes - 1) (drop 1 bytes))) n (suc i)) n before → after ≡ labelsOf bytes ++ drop n before
-  unfolding labelsOf decode
-  labels-left e = e ∙ (λ j. decode (tripleIn (body-is bytes j)) (r .kind j) ++ drop n before)
-
-  ends-left : (way : Way) → after ≡ filled (endAt (tripleIn (take (length bytes - 1) (drop 1 bytes))) n way) n before → after ≡ filled (endAt (triplesOf bytes) n way) n before
-  ends-left way e = e ∙ (λ j. filled (endAt (tripleIn (body-is bytes j)) n way) n before)
+-- what is written by the triples of the body is written by those of the record
+by-record : (bytes : List ℕ) {n earliest : ℕ} {labels₀ right₀ top₀ labels right top : List ℕ} → Written (tripleIn (take (length bytes - 1) (drop 1 bytes))) n earliest labels₀ right₀ top₀ labels right top
+    → Written (triplesOf bytes) n earliest labels₀ right₀ top₀ labels right top
+by-record bytes {n} {earliest} {labels₀} {right₀} {top₀} {labels} {right} {top} = subst (λ (body : List ℕ). Written (tripleIn body) n earliest labels₀ right₀ top₀ labels right top) (body-is bytes)
 
 sub-backward : tie.Need-sub-backward
 sub-backward c = some-byte (c .before .before .before .before .pre .0)
@@ -55,7 +48,7 @@ part-backward-end : tie.Need-part-backward-end
 part-backward-end c = search needs
 
 backward-requires : tie.Need-backward-requires
-backward-requires c κs = let s = c .before .before .before .before .before .before .before .before in let a = body-asked (s .pre .0) in (a .0, (a .1, s .pre .1))
+backward-requires c κs = let s = c .before .before .before .before .before .before .before .before in let p = s .pre .1 in let a = body-asked (s .pre .0) (p .0) in (a .0, (a .1, (p .1, p .2, p .3)))
 
 same-length : tie.Need-same-length
 same-length c = search needs
@@ -68,9 +61,8 @@ same-length-3 c = search needs
 
 returns : tie.Need-returns
 returns c =
-    let e = c .before .before .before .before .before .before .backward .ensures in
-    let s = c .before .before .before .before .before .before .before .before .before .before .before .before .before .before .before in
-    (labels-left (s .pre .0) (s .args .labels .now) (e .0), (ends-left (s .pre .0) (s .args .right .now) up (e .1 .0), ends-left (s .pre .0) (s .args .top .now) down (e .1 .1)))
+    let b = c .before .before .before .before .before .before in
+    by-record (b .before .before .before .before .before .before .before .before .before .args .«record» .now) (b .backward .ensures)
 
 pub finish-spec : {M : Type 1} → statement M
 finish-spec =
