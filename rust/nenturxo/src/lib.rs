@@ -36,6 +36,16 @@ pub const ROOMS_CAPACITY: usize = 255;
 ///
 /// `labels` has the label of the room at each position.
 ///
+/// ```
+/// use nenturxo::{labels_in, Refusal};
+///
+/// let mut record = [0xFF; 4];
+/// assert_eq!(labels_in(&[4, 1, 3, 5, 2], &mut record)?, 3);
+/// assert_eq!(record, [0x05, 0x31, 0x70, 0xFF]);
+/// assert_eq!(labels_in(&[2, 4, 1, 3], &mut record), Err(Refusal::BARRED_PATTERN));
+/// # Ok::<(), Refusal>(())
+/// ```
+///
 /// # Errors
 ///
 /// The first of these that holds, and `record` is as it was:
