@@ -7,7 +7,7 @@ use native.Mathlib.Nat.{not-suc-le-zero}
 use native.Mathlib.Omega.{arith}
 use Rattle.finite.specs.Decide.{le-or-lt, eq-or-ne}
 use Rattle.finite.specs.Search.{Some, Each}
-use Rattle.finite.specs.Sum.{sum, sum-le, sum-lt, sum-ones}
+use Rattle.finite.specs.Sum.{sum, sum-lt, sum-ones}
 
 -- ---- counting
 -- 1 where a statement holds, else 0
@@ -32,11 +32,6 @@ indicator-lt (no h) (yes q) f b = omega arith
 indicator-lt (no h) (no g) f b = absurd (g b)
 
 module _ (P Q : ℕ → Type 0) (d : (i : ℕ) → Dec (P i)) (t : (i : ℕ) → Dec (Q i)) (a e : ℕ) where
-  -- what has P has Q too
-  pub count-le : Each (λ i. P i → Q i) a e → count P d a e ≤ count Q t a e
-  unfolding count
-  count-le f = sum-le (λ i. indicator (d i)) (λ i. indicator (t i)) a e (λ i b c. indicator-le (d i) (t i) (f i b c))
-
   -- what has P has Q too, and something has only Q
   pub count-lt : Each (λ i. P i → Q i) a e → (j : ℕ) → a ≤ j → j < e → ¬ P j → Q j → count P d a e < count Q t a e
   unfolding count

@@ -11,7 +11,7 @@ use Rattle.rooms.specs.Demand3.{rooms-give-baxter}
 use Rattle.plans.specs.Answer.{roomsAnswer}
 use Rattle.plans.specs.Demand1.{RoomsSays, count, size, overlap, uncovered, four-meet, short, wrote, demand1-rooms-cause}
 use Rattle.plans.specs.declared.RoomsAnswer.{RoomsAnswer}
-use Rattle.nenturxo.specs.Code.{AtMost97}
+use Rattle.nenturxo.specs.Size.{AtMost97}
 
 record-small : (rooms : List Room) → AcceptedRooms rooms → length (recordOfRooms rooms) ≤ 97
 unfolding recordOfRooms

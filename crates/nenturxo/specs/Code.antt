@@ -1,6 +1,6 @@
 -- The number that a call of the C interface returns: the result, which is at least 0, or the refusal's number negated.
 use mathlib.Core.Bool.{Bool, true, false}
-use Prim.Native.Nat.{ℕ, _+_, _≤_}
+use Prim.Native.Nat.{ℕ, _+_}
 use lib.IntN.{ℤ, pos, negℤ}
 use Rattle.record.specs.Refusal.{numberOf}
 use Rattle.record.specs.declared.Refusal.{Refusal}
@@ -22,11 +22,6 @@ refusalCode refusal = negℤ (pos (numberOf refusal))
 abbrev pub roomsCode : RoomsAnswer → ℤ
 roomsCode (roomsIn.Wrote size) = pos size
 roomsCode (roomsIn.Refused refusal) = refusalCode refusal
-
--- an answer whose record is at most 97 bytes
-abbrev pub AtMost97 : RoomsAnswer → Type 0
-AtMost97 (roomsIn.Wrote size) = size ≤ 97
-AtMost97 (roomsIn.Refused refusal) = Unit
 
 -- Labels in: the record's length
 abbrev pub labelsCode : LabelsAnswer → ℤ

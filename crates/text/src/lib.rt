@@ -7,7 +7,7 @@ ghost use Rattle.text.specs.Put.{Put};
 ghost use Rattle.text.specs.Decimal.{decimal, field, wordLine};
 
 // Puts a byte after the text so far, which ends at `at`, and answers where the text then ends. So do all that follow.
-pub fn put_byte(text: &mut [u8], at: usize, byte: u8) -> usize
+fn put_byte(text: &mut [u8], at: usize, byte: u8) -> usize
     requires { ⌜ at < length (now text) ⌝ }
     ensures { λ r. ⌜ Put (now (text .entry)) at (byte ∷ []) (now (text .exit)) r ⌝ }
 {
@@ -29,7 +29,7 @@ pub fn put_word(text: &mut [u8], at: usize, word: &[u8]) -> usize
 }
 
 // Puts the digits of a number: those of its tenth, then the last one.
-pub fn put_number(text: &mut [u8], at: usize, number: u16) -> usize
+fn put_number(text: &mut [u8], at: usize, number: u16) -> usize
     requires { ⌜ at + length (decimal number) ≤ length (now text) ⌝ }
     ensures { λ r. ⌜ Put (now (text .entry)) at (decimal number) (now (text .exit)) r ⌝ }
 {

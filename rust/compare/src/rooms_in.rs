@@ -125,13 +125,7 @@ impl Tally {
 /// The rooms with these corners: left, bottom, right, top.
 #[must_use]
 pub fn rooms(corners: &[[u16; 4]]) -> Vec<Room> {
-    let room = |&[left, bottom, right, top]: &[u16; 4]| Room {
-        left,
-        bottom,
-        right,
-        top,
-    };
-    corners.iter().map(room).collect()
+    corners.iter().copied().map(Room::from).collect()
 }
 
 /// What the library answers a room list with, in slices that are long enough.

@@ -13,6 +13,18 @@ pub struct Room {
     pub top: u16,
 }
 
+/// The room with these corners: left, bottom, right, top.
+impl From<[u16; 4]> for Room {
+    fn from([left, bottom, right, top]: [u16; 4]) -> Self {
+        Self {
+            left,
+            bottom,
+            right,
+            top,
+        }
+    }
+}
+
 /// The rooms by position in the grid drawing of a list of at most 255 labels.
 /// The outline is 0 to n both ways.
 #[must_use]
@@ -52,15 +64,7 @@ mod tests {
     use super::{drawing, Room};
 
     fn rooms(corners: &[[u16; 4]]) -> Vec<Room> {
-        corners
-            .iter()
-            .map(|&[left, bottom, right, top]| Room {
-                left,
-                bottom,
-                right,
-                top,
-            })
-            .collect()
+        corners.iter().copied().map(Room::from).collect()
     }
 
     /// Calls `visit` with every order of the labels from `fixed` on.

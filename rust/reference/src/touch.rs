@@ -69,18 +69,9 @@ impl Room {
 mod tests {
     use crate::Room;
 
-    fn room([left, bottom, right, top]: [u16; 4]) -> Room {
-        Room {
-            left,
-            bottom,
-            right,
-            top,
-        }
-    }
-
     #[test]
     fn rooms_touch_along_an_edge_and_not_at_a_corner() {
-        let middle = room([3, 3, 5, 6]);
+        let middle = Room::from([3, 3, 5, 6]);
         let touching = [
             // left, right, below and above it, over the whole edge or a part
             [1, 3, 3, 6],
@@ -108,8 +99,8 @@ mod tests {
             [3, 0, 5, 2],
             [3, 7, 5, 9],
         ];
-        let touching = touching.map(|corners| (room(corners), true));
-        let apart = apart.map(|corners| (room(corners), false));
+        let touching = touching.map(|corners| (Room::from(corners), true));
+        let apart = apart.map(|corners| (Room::from(corners), false));
         for (other, answer) in touching.into_iter().chain(apart) {
             assert_eq!(middle.touches(other), answer, "{other:?}");
             assert_eq!(other.touches(middle), answer, "{other:?}");

@@ -47,7 +47,8 @@ use Rattle.plans.proofs.rooms_in as rooms-in
 use Rattle.plans.proofs.rooms_in.Symbol as rooms-in-def
 use Rattle.plans.proofs.rooms_in.Symbol.{name as #plans·rooms-in}
 use Rattle.plans.proofs.rooms_in.Met as rooms-in-thm
-use Rattle.nenturxo.specs.Code.{roomsCode, AtMost97}
+use Rattle.nenturxo.specs.Code.{roomsCode}
+use Rattle.nenturxo.specs.Size.{AtMost97}
 use Rattle.nenturxo.proofs.Sizes.{rooms-at-most-97}
 use Rattle.nenturxo.proofs.rooms_code as number
 use Rattle.nenturxo.proofs.rooms_code.Symbol as number-def

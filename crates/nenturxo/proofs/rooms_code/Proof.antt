@@ -6,7 +6,8 @@ use mir.Syntax.{w32}
 use mir.Val.{toZ, ofZ}
 use mir.ValLaws.{toZ-ofZ}
 use borrow.Author.Needs.{needs}
-use Rattle.nenturxo.specs.Code.{refusalCode, roomsCode, AtMost97}
+use Rattle.nenturxo.specs.Code.{refusalCode, roomsCode}
+use Rattle.nenturxo.specs.Size.{AtMost97}
 use Rattle.nenturxo.proofs.Signed.{small-is, refused-fits}
 use Rattle.nenturxo.proofs.rooms_code.Statement.{statement}
 use Rattle.nenturxo.proofs.rooms_code.Tie as tie

@@ -31,16 +31,6 @@ const REFUSED: [(&[u8], Refusal); 6] = [
     (&[0x00], Refusal::NoKind),
 ];
 
-/// The room with these corners.
-fn room([left, bottom, right, top]: [u16; 4]) -> Room {
-    Room {
-        left,
-        bottom,
-        right,
-        top,
-    }
-}
-
 /// The drawing of a record, once the library agrees with it.
 fn drawn(tally: &mut Tally, record: &[u8]) -> Vec<Room> {
     let given = Given::new(record);
@@ -71,7 +61,7 @@ fn worked_drawing_of_the_sheet() {
         [2, 4, 5, 5],
     ];
     let rooms = drawn(&mut tally, &[0x05, 0x31, 0x70]);
-    assert_eq!(rooms, printed.map(room));
+    assert_eq!(rooms, printed.map(Room::from));
     tally.finish(1);
 }
 
@@ -91,7 +81,7 @@ fn worked_drawing_of_001() {
 
     // Definition 9: for the label 3 the nearest larger ones are 7 and 5, the
     // nearest smaller ones 2 and 1. They stand at 2 and 5, and at 1 and 4.
-    assert_eq!(of_label(3), room([1, 2, 5 - 1, 4 - 1]));
+    assert_eq!(of_label(3), Room::from([1, 2, 5 - 1, 4 - 1]));
     tally.finish(1);
 }
 
@@ -116,13 +106,13 @@ fn rising_and_falling_plans_of_every_count() {
         // Rising: rooms from left to right, each as high as the outline.
         let record = record_of(n, &vec![[false, true, false]; steps]);
         tally.expect_labels(&record, &(1..=n).collect::<Vec<u8>>());
-        let columns = (1..=outline).map(|i| room([i - 1, 0, i, outline]));
+        let columns = (1..=outline).map(|i| Room::from([i - 1, 0, i, outline]));
         assert!(columns.eq(drawn(&mut tally, &record)), "n = {n}");
 
         // Falling: rooms from the bottom up, each as wide as the outline.
         let record = record_of(n, &vec![[true, false, true]; steps]);
         tally.expect_labels(&record, &(1..=n).rev().collect::<Vec<u8>>());
-        let rows = (1..=outline).map(|i| room([0, i - 1, outline, i]));
+        let rows = (1..=outline).map(|i| Room::from([0, i - 1, outline, i]));
         assert!(rows.eq(drawn(&mut tally, &record)), "n = {n}");
     }
     tally.finish(2 * 255 * 4);

@@ -162,19 +162,10 @@ mod tests {
         answer
     }
 
-    fn room([left, bottom, right, top]: [u16; 4]) -> Room {
-        Room {
-            left,
-            bottom,
-            right,
-            top,
-        }
-    }
-
     #[test]
     fn agrees_with_the_definitions_on_every_list_of_up_to_2_rooms_in_a_3_by_3_box() {
         let numbers = |code: u16| [code % 4, code / 4 % 4, code / 16 % 4, code / 64];
-        let rooms: Vec<Room> = (0..256).map(numbers).map(room).collect();
+        let rooms: Vec<Room> = (0..256).map(numbers).map(Room::from).collect();
         assert_eq!(compare(&[]), Err(Refusal::ListLength));
         for &first in &rooms {
             let _ = compare(&[first]);
@@ -187,7 +178,7 @@ mod tests {
     #[test]
     fn agrees_with_the_definitions_on_every_list_of_4_rooms_in_a_2_by_2_box() {
         let spans = [(0, 1), (1, 2), (0, 2)];
-        let boxes = spans.map(|x| spans.map(|y| room([x.0, y.0, x.1, y.1])));
+        let boxes = spans.map(|x| spans.map(|y| Room::from([x.0, y.0, x.1, y.1])));
         let boxes = boxes.concat();
         let mut meet = 0;
         for code in 0..9usize.pow(4) {

@@ -41,20 +41,11 @@ mod tests {
     use super::ranked;
     use crate::{drawing, Room};
 
-    fn room([left, bottom, right, top]: [u16; 4]) -> Room {
-        Room {
-            left,
-            bottom,
-            right,
-            top,
-        }
-    }
-
     #[test]
     fn ranks_count_the_smaller_coordinates_of_one_direction() {
         let rooms = [[7, 0, 9, 65_535], [9, 0, 400, 8], [9, 8, 400, 65_535]];
         let expected = [[0, 0, 1, 2], [1, 0, 2, 1], [1, 1, 2, 2]];
-        assert_eq!(ranked(&rooms.map(room)), expected.map(room));
+        assert_eq!(ranked(&rooms.map(Room::from)), expected.map(Room::from));
         assert!(ranked(&[]).is_empty());
     }
 
@@ -68,7 +59,7 @@ mod tests {
             [2, 0, 3, 2],
             [1, 2, 3, 3],
         ];
-        assert_eq!(ranks, expected.map(room));
+        assert_eq!(ranks, expected.map(Room::from));
         assert_eq!(ranked(&ranks), ranks);
     }
 }

@@ -4,15 +4,7 @@ use reference::{is_barred, rooms_in, Refusal, Room};
 
 /// The rooms with these corners: left, bottom, right, top.
 pub fn rooms(corners: &[[u16; 4]]) -> Vec<Room> {
-    corners
-        .iter()
-        .map(|&[left, bottom, right, top]| Room {
-            left,
-            bottom,
-            right,
-            top,
-        })
-        .collect()
+    corners.iter().copied().map(Room::from).collect()
 }
 
 /// What Rooms in answers.
