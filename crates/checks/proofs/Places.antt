@@ -1,7 +1,7 @@
 -- What is found in the lists of corners is found in the room list, and back: room i of the list is the room with the corners at place i.
 use mathlib.Core.Path.{_≡_, sym, ap, subst, _∙_}
-use mathlib.Core.Logic.{_⊎_, inl, inr}
-use mathlib.Core.Bool.{not}
+use mathlib.Core.Logic.{inl, inr}
+use mathlib.Core.Bool.{Bool, true, false, not}
 use mathlib.Core.List.{List}
 use Prim.Native.Nat.{ℕ, _≤_, _<_}
 use native.Mathlib.Omega.{arith}
@@ -13,18 +13,13 @@ use Rattle.finite.specs.Sum.{sum, sum-same}
 use Rattle.drawing.specs.declared.Room.{Room}
 use Rattle.rooms.specs.Outline.{roomIn, SomeRoom, least, greatest, outline}
 use Rattle.rooms.specs.OutlineLaws.{least-le, greatest-ge, least-largest, greatest-smallest, rooms-within-outline}
-use Rattle.rooms.specs.Causes.{RoomSize, Overlap, Uncovered, FourMeet}
+use Rattle.rooms.specs.Causes.{RoomSize, Overlap, Uncovered}
 use Rattle.rooms.specs.Corners.{cornersAt, length-rooms, room-of, OneLength}
-use Rattle.starts.specs.Starts.{numberAt, Starts}
-use Rattle.checks.specs.CornerLists.{roomsIn, SharesEarlier}
+use Rattle.checks.specs.CornerLists.{roomsIn, Flat, SharesEarlier}
 use Rattle.checks.specs.Area.{areaOf}
 use Rattle.checks.specs.Areas.{areasOf, uncovered→areas-less, areas-differ→uncovered}
-use Rattle.checks.specs.Diagonal.{Diagonal, wide-and-tall, diagonal→four-meet, no-diagonal→no-four-meet}
+use Rattle.checks.specs.Accepted.{wide-and-tall}
 use Rattle.checks.proofs.Tell.{differ-tells}
-
--- the room has no width or no height
-abbrev pub Flat : Room → Type 0
-Flat room = (room .right ≤ room .left) ⊎ (room .top ≤ room .bottom)
 
 module _ (lefts bottoms rights tops : List ℕ) where
   abbrev n : ℕ
@@ -50,11 +45,9 @@ module _ (lefts bottoms rights tops : List ℕ) where
   room→place P (i, l, h, p) = let g : i < n = omega (arith, count) in (i, l, g, subst (P i) (at i g) p)
 
   -- ---- cause 2
-  pub flat→room-size : Some (λ i. Flat (corners i)) 0 n → RoomSize rooms
-  flat→room-size = place→room (λ i room. Flat room)
-
-  pub room-size→flat : RoomSize rooms → Some (λ i. Flat (corners i)) 0 n
-  room-size→flat = room→place (λ i room. Flat room)
+  pub flat-tells : (t : Bool) → Tells t (Some (λ i. Flat (corners i)) 0 n) → Tells t (RoomSize rooms)
+  flat-tells true some = place→room (λ i room. Flat room) some
+  flat-tells false none = λ size. none (room→place (λ i room. Flat room) size)
 
   pub corners-wide-and-tall : ¬ RoomSize rooms → (i : ℕ) → i < n → (getD lefts i 0 < getD rights i 0) × (getD bottoms i 0 < getD tops i 0)
   corners-wide-and-tall size i h = subst (λ (room : Room). (room .left < room .right) × (room .bottom < room .top)) (at i h) (wide-and-tall rooms size i (omega (arith, count)))
@@ -124,21 +117,3 @@ module _ (lefts bottoms rights tops : List ℕ) where
 
       outer : whole ≡ areaOf (outline rooms)
       outer = w ∙ ap areaOf (box-is-outline lengths some box is)
-
-  -- ---- cause 5
-  abbrev pub StartsAcross : ℕ → Type 0
-  StartsAcross i = Starts (length lefts) (numberAt lefts) (numberAt bottoms) (getD rights i 0) (getD tops i 0)
-
-  module _ (size : ¬ RoomSize rooms) (overlap : ¬ Overlap rooms) (uncovered : ¬ Uncovered rooms) where
-    pub starts-across→four-meet : Some StartsAcross 0 n → FourMeet rooms
-    starts-across→four-meet (i, li, hi, (j, lj, hj, across)) = diagonal→four-meet rooms size overlap uncovered
-        (i, li, omega (arith, count), (j, lj, omega (arith, count), rw (at i hi, at j hj) across))
-
-    pub none-across→no-four-meet : ¬ Some StartsAcross 0 n → ¬ FourMeet rooms
-    none-across→no-four-meet none = no-diagonal→no-four-meet rooms size overlap uncovered back
-      where
-        back : ¬ Diagonal rooms
-        back (i, li, hi, (j, lj, hj, across)) =
-            let gi : i < n = omega (arith, count) in
-            let gj : j < n = omega (arith, count) in
-            none (i, li, gi, (j, lj, gj, rw (at i gi, at j gj) at across))

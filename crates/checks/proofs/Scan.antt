@@ -10,7 +10,7 @@ use Rattle.finite.specs.Decide.{Tells, eq-or-ne}
 use Rattle.finite.specs.Search.{Some}
 use Rattle.finite.specs.Sum.{sum}
 use Rattle.checks.specs.Marks.{Marks}
-use Rattle.checks.specs.Sums.{sum-next}
+use Rattle.corners.specs.Sums.{sum-next}
 use Rattle.checks.proofs.Tell.{equal-tells}
 
 module _ (P : ℕ → Type 0) where

@@ -14,8 +14,9 @@ use Rattle.rooms.specs.Outline.{Covers, roomIn, SomeRoom, outline}
 use Rattle.rooms.specs.Causes.{Overlap, Uncovered}
 use Rattle.rooms.specs.OutlineLaws.{rooms-within-outline}
 use Rattle.rooms.specs.DecideCauses.{dec-covers, dec-uncovered}
-use Rattle.checks.specs.Sums.{sum-swap, sum-ge, sum-some, sum-single}
-use Rattle.checks.specs.Area.{areaOf, square, square-le, covers→square, square→covers, squares-are-area}
+use Rattle.corners.specs.Sums.{sum-swap, sum-ge, sum-some, sum-single}
+use Rattle.corners.specs.Squares.{square, square-le, covers→square, square→covers}
+use Rattle.checks.specs.Area.{areaOf, squares-are-area}
 
 abbrev pub areasOf : List Room → ℕ
 areasOf rooms = sum (λ i. areaOf (roomIn rooms i)) 0 (length rooms)

@@ -4,6 +4,5 @@ pub mod Marks
 pub mod Area
 pub mod Verdict
 -- What they rest on
-pub mod Sums
 pub mod Areas
-pub mod Diagonal
+pub mod Accepted

@@ -1,7 +1,10 @@
--- What each verdict says of a room list. "Order: rooms 1, 2, 3, 4, 5, 15."
+-- What each verdict says of a room list, and of the corners. "Order: rooms 1, 2, 3, 4, 5, 15."
 use mathlib.Core.List.{List}
+use Prim.Native.Nat.{ℕ}
 use Rattle.drawing.specs.declared.Room.{Room}
 use Rattle.rooms.specs.Causes.{RoomSize, Overlap, Uncovered, FourMeet, AcceptedRooms}
+use Rattle.rooms.specs.Plan.{Plan}
+use Rattle.corners.specs.Corners.{CornersPaired}
 use Rattle.checks.specs.declared.Verdict.{Verdict}
 use Rattle.checks.specs.declared.Verdict.the-variants as verdict
 
@@ -12,3 +15,11 @@ VerdictOf rooms verdict.RoomSize = RoomSize rooms
 VerdictOf rooms verdict.Overlap = (¬ RoomSize rooms) × Overlap rooms
 VerdictOf rooms verdict.Uncovered = (¬ RoomSize rooms) × (¬ Overlap rooms) × Uncovered rooms
 VerdictOf rooms verdict.FourMeet = (¬ RoomSize rooms) × (¬ Overlap rooms) × (¬ Uncovered rooms) × FourMeet rooms
+
+-- the corners of an accepted list are paired
+abbrev pub PairedWhere : Verdict → (p : Plan) (there back : ℕ → ℕ) → Type 0
+PairedWhere verdict.Accepted p there back = CornersPaired p there back
+PairedWhere verdict.RoomSize p there back = Unit
+PairedWhere verdict.Overlap p there back = Unit
+PairedWhere verdict.Uncovered p there back = Unit
+PairedWhere verdict.FourMeet p there back = Unit

@@ -1,15 +1,17 @@
 // The causes 2 to 5 of a room list, decided on its rooms' corners: four lists of one length, each corner at the room's place.
 ghost use mathlib.Core.Path.{_≡_};
 ghost use Prim.Native.Nat.{_*_, _≤_, _<_};
-ghost use lib.ListN.{length};
+ghost use lib.ListN.{length, replicate};
 ghost use Rattle.finite.specs.Decide.{Tells};
 ghost use Rattle.finite.specs.Sum.{sum};
-ghost use Rattle.rooms.specs.Causes.{RoomSize, ShareSquare, Overlap, Uncovered, FourMeet};
+ghost use Rattle.rooms.specs.Causes.{RoomSize, ShareSquare, Overlap, Uncovered};
 ghost use Rattle.rooms.specs.Corners.{cornersAt, OneLength};
-ghost use Rattle.checks.specs.CornerLists.{roomsIn, SharesEarlier};
+ghost use Rattle.checks.specs.CornerLists.{roomsIn, Flat, SharesEarlier};
 ghost use Rattle.checks.specs.Marks.{Marks};
 ghost use Rattle.checks.specs.Area.{areaOf};
-ghost use Rattle.checks.specs.Verdict.{VerdictOf};
+ghost use Rattle.checks.specs.Verdict.{VerdictOf, PairedWhere};
+ghost use Rattle.points.specs.Listed.{numberAt};
+ghost use Rattle.corners.specs.ListPlan.{listPlan};
 use drawing::Room;
 
 // The first cause that a room list has in the order 2, 3, 4, 5, or that it has none of them.
@@ -37,22 +39,32 @@ fn room_at(left: &[u16], bottom: &[u16], right: &[u16], top: &[u16], i: usize) -
 
 // ---- cause 2
 
-// Whether a room has no width or no height.
+// 1 where the room has no width or no height, else 0.
+fn no_size(room: Room) -> u16
+    ensures { λ r. ⌜ Marks r (Flat room) ⌝ }
+{
+    if room.right <= room.left {
+        return 1;
+    }
+    if room.top <= room.bottom {
+        return 1;
+    }
+    0
+}
+
+// Whether a room has no width or no height. No turn leaves the loop, and what is found is kept as a number of the corners' width: so the compiler looks at several
+// rooms at a time.
 fn flat(left: &[u16], bottom: &[u16], right: &[u16], top: &[u16]) -> bool
     requires { ⌜ OneLength (now left) (now bottom) (now right) (now top) ⌝ }
     ensures { λ r. ⌜ Tells r (RoomSize (roomsIn (now (left .entry)) (now (bottom .entry)) (now (right .entry)) (now (top .entry)))) ⌝ }
 {
+    let mut found: u16 = 0;
     let mut i = 0;
     while i < left.len() {
-        if right[i] <= left[i] {
-            return true;
-        }
-        if top[i] <= bottom[i] {
-            return true;
-        }
+        found = found | no_size(room_at(left, bottom, right, top, i));
         i += 1;
     }
-    false
+    found == 1
 }
 
 // ---- cause 3
@@ -73,8 +85,7 @@ fn share(first: Room, second: Room) -> u16
     0
 }
 
-// Whether room j shares a unit square with an earlier room. No turn leaves the loop, and what is found is kept as a number of the corners' width: so the
-// compiler compares several rooms at a time.
+// Whether room j shares a unit square with an earlier room, in a loop that no turn leaves, as above.
 fn shares_earlier(left: &[u16], bottom: &[u16], right: &[u16], top: &[u16], j: usize) -> bool
     requires { ⌜ OneLength (now left) (now bottom) (now right) (now top) ⌝ }
     requires { ⌜ j < length (now left) ⌝ }
@@ -150,44 +161,30 @@ fn uncovered(left: &[u16], bottom: &[u16], right: &[u16], top: &[u16]) -> bool
     areas(left, bottom, right, top) != area(outline)
 }
 
-// ---- cause 5
-
-// Whether four rooms meet at a point. Where two rooms lie across a point, the one's upper-right corner and the other's lower-left corner there, the rooms
-// between them have a corner there too, since no unit square is left over.
-fn four_meet(left: &[u16], bottom: &[u16], right: &[u16], top: &[u16]) -> bool
-    requires { ⌜ OneLength (now left) (now bottom) (now right) (now top) ⌝ }
-    requires { ⌜ ¬ RoomSize (roomsIn (now left) (now bottom) (now right) (now top)) ⌝ }
-    requires { ⌜ ¬ Overlap (roomsIn (now left) (now bottom) (now right) (now top)) ⌝ }
-    requires { ⌜ ¬ Uncovered (roomsIn (now left) (now bottom) (now right) (now top)) ⌝ }
-    requires { ⌜ length (now left) ≤ 255 ⌝ }
-    ensures { λ r. ⌜ Tells r (FourMeet (roomsIn (now (left .entry)) (now (bottom .entry)) (now (right .entry)) (now (top .entry)))) ⌝ }
-{
-    let mut newest = [0u8; 1024];
-    let mut older = [0u8; 255];
-    starts::list_starts(left, bottom, &mut newest, &mut older);
-    let mut i = 0;
-    while i < left.len() {
-        let x = right[i];
-        let y = top[i];
-        let across = starts::look_up(left, bottom, &newest, &older, x, y);
-        if across < left.len() {
-            return true;
-        }
-        i += 1;
-    }
-    false
-}
-
 // ---- all four
 
-// The first of them that the list has, in the sheet's order. Each test leans on what the earlier ones have excluded.
-pub fn judge(left: &[u16], bottom: &[u16], right: &[u16], top: &[u16]) -> Verdict
+// The first of them that the list has, in the sheet's order. Where the corners are in pairs it has none, and the pairs are noted; that is so of every accepted list, and what a
+// floorplan is not to have is looked for only where they are not. A list that does not overlap, leaves no square over and is no floorplan can only have four rooms that meet.
+pub fn judge(
+    left: &[u16],
+    bottom: &[u16],
+    right: &[u16],
+    top: &[u16],
+    there: &mut [u16; 512],
+    back: &mut [u16; 512],
+) -> Verdict
     requires { ⌜ OneLength (now left) (now bottom) (now right) (now top) ⌝ }
     requires { ⌜ (1 ≤ length (now left)) × (length (now left) ≤ 255) ⌝ }
-    ensures { λ r. ⌜ VerdictOf (roomsIn (now (left .entry)) (now (bottom .entry)) (now (right .entry)) (now (top .entry))) r ⌝ }
+    requires { ⌜ (length (now there) ≡ 512) × (now back ≡ replicate 512 512) ⌝ }
+    ensures verdict { λ r. ⌜ VerdictOf (roomsIn (now (left .entry)) (now (bottom .entry)) (now (right .entry)) (now (top .entry))) r ⌝ }
+    ensures size { λ _. ⌜ (length (now (there .exit)) ≡ 512) × (length (now (back .exit)) ≡ 512) ⌝ }
+    ensures pairs { λ r. ⌜ PairedWhere r (listPlan (now (left .entry)) (now (bottom .entry)) (now (right .entry)) (now (top .entry))) (numberAt (now (there .exit))) (numberAt (now (back .exit))) ⌝ }
 {
     if flat(left, bottom, right, top) {
         return Verdict::RoomSize;
+    }
+    if corners::pair_corners(left, bottom, right, top, there, back) {
+        return Verdict::Accepted;
     }
     if overlap(left, bottom, right, top) {
         return Verdict::Overlap;
@@ -195,8 +192,5 @@ pub fn judge(left: &[u16], bottom: &[u16], right: &[u16], top: &[u16]) -> Verdic
     if uncovered(left, bottom, right, top) {
         return Verdict::Uncovered;
     }
-    if four_meet(left, bottom, right, top) {
-        return Verdict::FourMeet;
-    }
-    Verdict::Accepted
+    Verdict::FourMeet
 }

@@ -1,4 +1,4 @@
 -- Laws that the functions' proofs cite.
-pub mod Searching
+pub mod Walking
+pub mod ToGo
 pub mod Ranking
-pub mod Listing

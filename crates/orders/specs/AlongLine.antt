@@ -3,7 +3,7 @@
 use mathlib.Core.Path.{_≡_}
 use mathlib.Core.Logic.{_⊎_}
 use Prim.Native.Nat.{ℕ, _<_, zero-le}
-use Rattle.starts.specs.Starts.{Starts}
+use Rattle.orders.specs.Starts.{Starts}
 
 -- room c is reached from the point
 pub data Reached (n : ℕ) (on from to : ℕ → ℕ) (line point : ℕ) : ℕ → Type 0 where

@@ -1,8 +1,11 @@
 -- Definitions that the contracts cite
+pub mod Starts
 pub mod AlongLine
-pub mod Found
+pub mod Sized
 pub mod Ranked
-pub mod LabelsAndPositions
+pub mod Joined
+pub mod Turns
+pub mod InOrder
 -- The rule of the next room
 pub mod Successor
 pub mod NextRoom

@@ -13,7 +13,7 @@ use Rattle.rooms.specs.SharedRow.{row→left-or-right}
 use Rattle.rooms.specs.Staircase.{not-left-and-below}
 use Rattle.rooms.specs.UpsideDown.{not-left-and-above}
 use Rattle.rooms.specs.FourRelations.{left-asym}
-use Rattle.starts.specs.Starts.{Starts}
+use Rattle.orders.specs.Starts.{Starts}
 use Rattle.orders.specs.AlongLine.{Reached, first, further, End, reached→room, reached→on, reached→starts}
 use Rattle.orders.specs.Successor.{Successor}
 

@@ -9,7 +9,7 @@ use Rattle.finite.specs.Search.{Some}
 use Rattle.rooms.specs.Plan.{Plan, Fits, RoomCovers, Floorplan, tiles, swap, swap-floorplan, owner, owner-covers, Left, Below, left-a<, left-b<, left→right≤left}
 use Rattle.rooms.specs.UpperRight.{other-way}
 use Rattle.rooms.specs.UpsideDown.{flip, flipped, flipped-sym, flip-floorplan, flip-left, flip-below}
-use Rattle.starts.specs.Starts.{Starts}
+use Rattle.orders.specs.Starts.{Starts}
 use Rattle.orders.specs.AlongLine.{StartsAtCorner, Reached, first, further, Follows, beside, across, reached→room}
 use Rattle.orders.specs.Successor.{Successor, successor-map}
 use Rattle.orders.specs.NextRoom.{end→successor}

@@ -15,7 +15,7 @@ use Rattle.rooms.specs.Steps.{left-of→left, left→left-of, below-of→below,
 use Rattle.rooms.specs.TwoOrders.{strict}
 use Rattle.rooms.specs.RoomOrders.{position-orders, label-orders}
 use Rattle.rooms.specs.Ranks.{OneToN, position-is-rank, label-is-rank, positions-1-to-n, labels-1-to-n}
-use Rattle.starts.specs.Starts.{Starts}
+use Rattle.orders.specs.Starts.{Starts}
 use Rattle.orders.specs.AlongLine.{StartsAtCorner, Follows, follows→room}
 use Rattle.orders.specs.Successor.{first→rank-0, last→rank-most, next→rank-one-more}
 use Rattle.orders.specs.PlanOrders.{Ordered, ordered-map, position-order, label-order, LeftOrBelow, LeftOrAbove}

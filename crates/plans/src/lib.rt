@@ -6,6 +6,9 @@ ghost use Rattle.finite.specs.Fill.{filled};
 ghost use Rattle.rooms.specs.Causes.{AcceptedRooms};
 ghost use Rattle.rooms.specs.LabelList.{recordOfRooms};
 ghost use Rattle.rooms.specs.Corners.{roomsOf, OneLength};
+ghost use Rattle.points.specs.Listed.{numberAt};
+ghost use Rattle.corners.specs.Corners.{CornersPaired};
+ghost use Rattle.corners.specs.ListPlan.{listPlan};
 ghost use Rattle.plans.specs.Answer.{roomsAnswer, labelsOfRooms, positionsOfRooms, written};
 ghost use Rattle.plans.specs.Copied.{put, roomsIn};
 use checks::Verdict;
@@ -31,18 +34,21 @@ fn put_front(numbers: &[u8; 255], n: usize, slice: &mut [u8])
     }
 }
 
-// The record of an accepted room list, and the label and the position of each room; or 15, and the slices as they were. Its label list is Baxter, so that Labels in can only find the
+// The record of an accepted room list, whose corners are paired, and the label and the position of each room; or 15, and the slices as they were. Its label list is Baxter, so that Labels in can only find the
 // record slice too short.
 fn write(
     left: &[u16],
     bottom: &[u16],
     right: &[u16],
     top: &[u16],
+    there: &[u16; 512],
+    back: &[u16; 512],
     record: &mut [u8],
     labels: &mut [u8],
     positions: &mut [u8],
 ) -> RoomsAnswer
-    requires { ⌜ OneLength (now left) (now bottom) (now right) (now top) ⌝ ∗ ⌜ AcceptedRooms (roomsOf (now left) (now bottom) (now right) (now top) (length (now left))) ⌝ }
+    requires { ⌜ OneLength (now left) (now bottom) (now right) (now top) ⌝ ∗ ⌜ AcceptedRooms (roomsOf (now left) (now bottom) (now right) (now top) (length (now left))) ⌝
+        ∗ ⌜ CornersPaired (listPlan (now left) (now bottom) (now right) (now top)) (numberAt (now there)) (numberAt (now back)) ⌝ ∗ ⌜ (length (now there) ≡ 512) × (length (now back) ≡ 512) ⌝ }
     ensures answer { λ r. ⌜ r ≡ roomsAnswer (roomsOf (now (left .entry)) (now (bottom .entry)) (now (right .entry)) (now (top .entry)) (length (now (left .entry)))) (length (now («record» .entry))) (length (now (labels .entry))) (length (now (positions .entry))) ⌝ }
     ensures bytes { λ r. ⌜ now («record» .exit) ≡ written r (recordOfRooms (roomsOf (now (left .entry)) (now (bottom .entry)) (now (right .entry)) (now (top .entry)) (length (now (left .entry))))) (now («record» .entry)) ⌝ }
     ensures each { λ r. ⌜ now (labels .exit) ≡ written r (labelsOfRooms (roomsOf (now (left .entry)) (now (bottom .entry)) (now (right .entry)) (now (top .entry)) (length (now (left .entry))))) (now (labels .entry)) ⌝ }
@@ -57,10 +63,20 @@ fn write(
     }
     let mut label_of = [0u8; 255];
     let mut position_of = [0u8; 255];
+    let mut by_position = [0u8; 255];
     let mut list = [0u8; 255];
-    orders::positions(left, bottom, right, top, &mut position_of);
-    orders::labels(left, bottom, right, top, &mut label_of);
-    orders::label_list(&label_of, &position_of, n, &mut list);
+    orders::positions(
+        left,
+        bottom,
+        right,
+        top,
+        there,
+        back,
+        &mut by_position,
+        &mut position_of,
+    );
+    orders::labels(left, bottom, right, top, there, back, &mut label_of);
+    orders::label_list(&label_of, &by_position, n, &mut list);
     match labels::labels_in(&list[..n], record) {
         LabelsAnswer::Refused(refusal) => RoomsAnswer::Refused(refusal),
         LabelsAnswer::Wrote(size) => {
@@ -94,12 +110,24 @@ fn enter(
     if 255 < n {
         return RoomsAnswer::Refused(Refusal::Count);
     }
-    match checks::judge(left, bottom, right, top) {
+    let mut there = [0u16; 512];
+    let mut back = [512u16; 512];
+    match checks::judge(left, bottom, right, top, &mut there, &mut back) {
         Verdict::RoomSize => RoomsAnswer::Refused(Refusal::RoomSize),
         Verdict::Overlap => RoomsAnswer::Refused(Refusal::Overlap),
         Verdict::Uncovered => RoomsAnswer::Refused(Refusal::Uncovered),
         Verdict::FourMeet => RoomsAnswer::Refused(Refusal::FourMeet),
-        Verdict::Accepted => write(left, bottom, right, top, record, labels, positions),
+        Verdict::Accepted => write(
+            left,
+            bottom,
+            right,
+            top,
+            &there,
+            &back,
+            record,
+            labels,
+            positions,
+        ),
     }
 }
 

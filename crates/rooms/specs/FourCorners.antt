@@ -52,7 +52,7 @@ module _ (p : Plan) (k : Floorplan p) (x y : ℕ) where
       (a, zero-le, ha, record { side = inr ta; bottom = omega arith; top = omega arith })
       (d, zero-le, hd, record { side = inl bd; bottom = omega arith; top = omega arith })
 
-  falling→cross : (b c : ℕ) → b < count → c < count → left b ≡ x → top b ≡ y → right c ≡ x → bottom c ≡ y → ⊥
+  pub falling→cross : (b c : ℕ) → b < count → c < count → left b ≡ x → top b ≡ y → right c ≡ x → bottom c ≡ y → ⊥
   falling→cross b c hb hc lb tb rc bc =
       let fb = k .fits b hb in
       let fc = k .fits c hc in

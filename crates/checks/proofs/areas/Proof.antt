@@ -7,7 +7,7 @@ use Rattle.finite.specs.Sum.{sum}
 use Rattle.checks.specs.Area.{areaOf}
 use Rattle.checks.proofs.Places.{corners, corners-wide-and-tall}
 use Rattle.checks.proofs.Scan.{sum-more}
-use Rattle.checks.specs.Sums.{sum-none}
+use Rattle.corners.specs.Sums.{sum-none}
 use borrow.Author.Needs.{needs}
 use Rattle.checks.proofs.areas.Statement.{statement}
 use Rattle.checks.proofs.areas.Tie as tie

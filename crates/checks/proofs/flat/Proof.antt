@@ -1,53 +1,31 @@
--- `flat` meets its contract. The loop keeps that no room before `i` is flat; the room at which it stops is flat, and where it does not stop none is.
-use Prim.Native.Nat.{_≤_, _-_, zero-le}
+-- `flat` meets its contract. The loop keeps that `found` marks whether a room before `i` is flat.
+use Prim.Native.Nat.{_≤_, _-_}
 use native.Mathlib.Omega.{arith}
+use lib.Dec.{eqb}
 use lib.ListN.{length}
 use Rattle.finite.specs.Search.{Some}
-use mathlib.Core.Logic.{⊎-elim, inl, inr}
-use Rattle.checks.proofs.Scan.{none-yet, none-here, none-at-all}
-use Rattle.checks.proofs.Places.{Flat, corners, flat→room-size, room-size→flat}
+use Rattle.checks.specs.CornerLists.{Flat}
+use Rattle.checks.specs.Marks.{Marks}
+use Rattle.checks.proofs.Scan.{marks-none, marks-more, marks-tell}
+use Rattle.checks.proofs.Places.{corners, flat-tells}
 use borrow.Author.Needs.{needs}
 use Rattle.checks.proofs.flat.Statement.{statement}
 use Rattle.checks.proofs.flat.Tie as tie
 
 abbrev Inv-loop : tie.InvT-loop
-Inv-loop left bottom right top i₀ i = (i ≤ length left) × (¬ Some (λ k. Flat (corners left bottom right top k)) 0 i)
+Inv-loop left bottom right top found₀ i₀ found i = (i ≤ length left) × Marks found (Some (λ k. Flat (corners left bottom right top k)) 0 i)
 
 abbrev μ-loop : tie.MeasureT-loop
-μ-loop left bottom right top i₀ i = length left - i
+μ-loop left bottom right top found₀ i₀ found i = length left - i
 
 loop-holds : tie.Need-loop-holds Inv-loop μ-loop
-loop-holds c = (omega arith, none-yet _)
+loop-holds c = (omega arith, marks-none _)
 
-mul-if1 : tie.Need-mul-if1 Inv-loop μ-loop
-mul-if1 c = search needs
+room-at-requires : tie.Need-room-at-requires Inv-loop μ-loop
+room-at-requires c κs = search needs
 
-shared-slice-read-if1 : tie.Need-shared-slice-read-if1 Inv-loop μ-loop
-shared-slice-read-if1 c = search needs
-
-mul-if1-2 : tie.Need-mul-if1-2 Inv-loop μ-loop
-mul-if1-2 c = search needs
-
-shared-slice-read-if1-2 : tie.Need-shared-slice-read-if1-2 Inv-loop μ-loop
-shared-slice-read-if1-2 c = search needs
-
-returns : tie.Need-returns Inv-loop μ-loop
-returns c = let here = c .before .before .before .before in flat→room-size _ _ _ _ (here .loop .i, zero-le, c .before .before .before .loop-test .taken, inl (c .if1 .taken))
-
-mul-if2 : tie.Need-mul-if2 Inv-loop μ-loop
-mul-if2 c = search needs
-
-shared-slice-read-if2 : tie.Need-shared-slice-read-if2 Inv-loop μ-loop
-shared-slice-read-if2 c = search needs
-
-mul-if2-2 : tie.Need-mul-if2-2 Inv-loop μ-loop
-mul-if2-2 c = search needs
-
-shared-slice-read-if2-2 : tie.Need-shared-slice-read-if2-2 Inv-loop μ-loop
-shared-slice-read-if2-2 c = search needs
-
-returns-2 : tie.Need-returns-2 Inv-loop μ-loop
-returns-2 c = let here = c .before .before .before .before .before .before .before in flat→room-size _ _ _ _ (here .loop .i, zero-le, c .before .before .before .before .before .before .loop-test .taken, inr (c .if2 .taken))
+no-size-requires : tie.Need-no-size-requires Inv-loop μ-loop
+no-size-requires c κs = search needs
 
 add-i : tie.Need-add-i Inv-loop μ-loop
 add-i c = search needs
@@ -56,10 +34,12 @@ loop-less : tie.Need-loop-less Inv-loop μ-loop
 loop-less c = search needs
 
 loop-again : tie.Need-loop-again Inv-loop μ-loop
-loop-again c = let here = c .before .before .before .before .before .before .before in (omega arith, none-here _ (here .loop .i) (here .loop .inv .1) (λ flat. ⊎-elim (λ h. omega arith) (λ h. omega arith) flat))
+loop-again c =
+    let here = c .before .before .before in
+    (omega arith, marks-more _ (here .loop .i) (here .loop .found) (c .no-size .result) (here .loop .inv .1) (rw (c .before .room-at .ensures) at (c .no-size .ensures)))
 
-returns-3 : tie.Need-returns-3 Inv-loop μ-loop
-returns-3 c = λ flat. none-at-all _ _ (c .before .loop .i) (omega arith) (c .before .loop .inv .1) (room-size→flat _ _ _ _ flat)
+returns : tie.Need-returns Inv-loop μ-loop
+returns c = let l = c .before in flat-tells _ _ _ _ (eqb (l .loop .found) 1) (marks-tell _ _ (l .loop .i) (l .loop .found) (omega (arith, c .loop-test .left)) (l .loop .inv .1))
 
 pub flat-spec : {M : Type 1} → statement M
 flat-spec =
@@ -68,17 +48,9 @@ flat-spec =
     Inv-loop
     μ-loop
     loop-holds
-    mul-if1
-    shared-slice-read-if1
-    mul-if1-2
-    shared-slice-read-if1-2
-    returns
-    mul-if2
-    shared-slice-read-if2
-    mul-if2-2
-    shared-slice-read-if2-2
-    returns-2
+    room-at-requires
+    no-size-requires
     add-i
     loop-less
     loop-again
-    returns-3)
+    returns)

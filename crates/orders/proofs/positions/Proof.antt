@@ -1,28 +1,33 @@
--- `positions` meets its contract: the corners of an accepted list have ranks as `ranks_from` finds them, and these are the positions.
-use native.Mathlib.Omega.{arith}
-use Rattle.orders.specs.CornerLists.{positions-by-corners, positions-sized, one-to-255}
+-- `positions` meets its contract: the corners of an accepted list have ranks as `order` finds them, and these are the positions.
+use Rattle.orders.specs.CornerLists.{one-to-255, positions-by-corners, positions-sized, positions-linked}
 use Rattle.orders.proofs.positions.Statement.{statement}
 use Rattle.orders.proofs.positions.Tie as tie
 
-lowest-requires : tie.Need-lowest-requires
-lowest-requires c κs = let s = c .before .before .before .before in one-to-255 _ _ _ _ (s .pre .0) (s .pre .1 .0) .0
-
-lowest-requires-2 : tie.Need-lowest-requires-2
-lowest-requires-2 c κs = let s = c .before .before .before .before .before in omega (arith, s .pre .0 .bottoms-length, one-to-255 _ _ _ _ (s .pre .0) (s .pre .1 .0) .0)
-
-ranks-from-requires : tie.Need-ranks-from-requires
-ranks-from-requires c κs =
-    let s = c .before .before .before .before .before .before .before in
+order-requires : tie.Need-order-requires
+order-requires c κs =
+    let s = c .before .before .before .before .before in
     let lengths = s .pre .0 in
     let accepted = s .pre .1 .0 in
-    let ranked = positions-by-corners _ _ _ _ lengths accepted _ _ (c .before .before .lowest .ensures) (c .before .lowest2 .ensures) in
-    ((_, ranked), (positions-sized _ _ _ _ lengths accepted, (one-to-255 _ _ _ _ lengths accepted .1, s .pre .1 .1)))
+    let sizes = s .pre .1 .1 .1 in
+    ((_, _, _, positions-by-corners _ _ _ _ lengths accepted, positions-linked _ _ _ _ lengths accepted (s .pre .1 .1 .0)), (positions-sized _ _ _ _ lengths accepted, (one-to-255 _ _ _ _ lengths accepted .1, sizes .1, sizes .0, sizes .2)))
+
+rank-all-requires : tie.Need-rank-all-requires
+rank-all-requires c κs =
+    let s = c .before .before .before .before .before .before .before .before in
+    let lengths = s .pre .0 in
+    let accepted = s .pre .1 .0 in
+    let ranked = positions-by-corners _ _ _ _ lengths accepted in
+    ((_, ranked .one-to-n, c .before .before .order .ensures .1 _ _ _ ranked (positions-linked _ _ _ _ lengths accepted (s .pre .1 .1 .0))), (one-to-255 _ _ _ _ lengths accepted .1, s .pre .1 .1 .1 .3))
 
 returns : tie.Need-returns
 returns c =
-    let s = c .before .before .before .before .before .before .before .before in
-    let ranked = positions-by-corners _ _ _ _ (s .pre .0) (s .pre .1 .0) _ _ (c .before .before .before .lowest .ensures) (c .before .before .lowest2 .ensures) in
-    (c .ranks-from .ensures .0, c .ranks-from .ensures .1 _ ranked)
+    let s = c .before .before .before .before .before .before .before .before .before in
+    let lengths = s .pre .0 in
+    let accepted = s .pre .1 .0 in
+    let ranked = positions-by-corners _ _ _ _ lengths accepted in
+    let by = c .before .before .before .order .ensures in
+    let in-order = by .1 _ _ _ ranked (positions-linked _ _ _ _ lengths accepted (s .pre .1 .1 .0)) in
+    ((by .0, c .rank-all .ensures .0), (in-order, c .rank-all .ensures .1 _ (ranked .one-to-n) in-order))
 
 pub positions-spec : {M : Type 1} → statement M
-positions-spec = tie.close (tie.spec lowest-requires lowest-requires-2 ranks-from-requires returns)
+positions-spec = tie.close (tie.spec order-requires rank-all-requires returns)

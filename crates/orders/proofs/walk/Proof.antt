@@ -1,66 +1,84 @@
--- `walk` meets its contract: the room it stands at is reached along the line, and the one that it found next continues from there.
-use Prim.Native.Nat.{_<_}
+-- `walk` meets its contract: before each turn the rooms of the ranks before stand in order, and the walk is on the way to the room of the next rank.
+use mathlib.Core.Path.{_≡_, refl, _∙_}
+use Prim.Native.Nat.{ℕ, _/_, _≤_, _<_}
 use native.Mathlib.Omega.{arith}
-use lib.ListN.{length}
-use Rattle.orders.specs.AlongLine.{Reached}
-use Rattle.starts.specs.Starts.{numberAt, Search}
-use Rattle.orders.proofs.Searching.{walk-first, walk-further, walk-end, walk-none, ahead, ahead-falls}
+use lib.ListN.{length, length-set}
+use Rattle.points.specs.Listed.{numberAt}
+use Rattle.orders.specs.Ranked.{Ranked}
+use Rattle.orders.specs.Turns.{Walkable}
+use Rattle.orders.proofs.Walking.{Walked, walked-none, walked-turn}
+use Rattle.orders.proofs.ToGo.{toGo, to-go-falls}
 use borrow.Author.Needs.{needs}
 use Rattle.orders.proofs.walk.Statement.{statement}
 use Rattle.orders.proofs.walk.Tie as tie
+use Rattle.orders.proofs.walk.Reads as reads
+use Rattle.orders.proofs.walk.Lts as lts
+use Rattle.orders.proofs.wide.Reads as wide-reads
 
 abbrev Inv-loop : tie.InvT-loop
-Inv-loop on from to newest older line point room₀ further₀ room further =
-    (room < length on) × Reached (length on) (numberAt on) (numberAt from) (numberAt to) line point room × Search (length on) (numberAt on) (numberAt from) line (numberAt to room) further
+Inv-loop left bottom right top turned first by₀ n at₀ k₀ by at k =
+    (k ≤ length left) × (length by ≡ 255)
+    × ((w : Walkable (length left) (numberAt left) (numberAt bottom) (numberAt right) (numberAt top) first (numberAt turned)) (f : ℕ → ℕ)
+    (r : Ranked (length left) (numberAt left) (numberAt bottom) (numberAt right) (numberAt top) (numberAt left first) (numberAt bottom first) f) → Walked (w .joined) r k at by)
 
 abbrev μ-loop : tie.MeasureT-loop
-μ-loop on from to newest older line point room₀ further₀ room further = ahead (numberAt from room) (numberAt to room)
+μ-loop left bottom right top turned first by₀ n at₀ k₀ by at k = toGo (length left) (numberAt left) (numberAt bottom) (numberAt top) k at
 
-look-up-requires : tie.Need-look-up-requires Inv-loop μ-loop
-look-up-requires c κs = search needs
+-- where the walk is
+here : (e : lts.In-loop (wide-reads.Asked, wide-reads.Learnt) reads.Pre reads.Post Inv-loop μ-loop) → e .before .loop .at / 2 < length (e .before .before .before .before .before .before .args .left .now)
+here e = let s = e .before .before .before .before .before .before in let (f, r) = s .pre .0 in e .before .loop .inv .2 (s .pre .1 .1 .1) f r .at-next (e .loop-test .taken) .room
 
-returns : tie.Need-returns Inv-loop μ-loop
-returns c = walk-none (omega arith) (c .before .look-up .ensures)
+mul-at : tie.Need-mul-at Inv-loop μ-loop
+mul-at c = let s = c .before .before .before .before in record { fits = omega (arith, s .pre .1 .1 .1 .first<, s .pre .1 .1 .0 .0) }
 
-mul-look-up : tie.Need-mul-look-up Inv-loop μ-loop
-mul-look-up c = search needs
-
-shared-slice-read-look-up : tie.Need-shared-slice-read-look-up Inv-loop μ-loop
-shared-slice-read-look-up c = omega (arith, c .before .before .look-up .ensures .within)
-
-look-up-requires-2 : tie.Need-look-up-requires-2 Inv-loop μ-loop
-look-up-requires-2 c κs = search needs
+add-at : tie.Need-add-at Inv-loop μ-loop
+add-at c = let s = c .before .before .before .before in record { fits = omega (arith, s .pre .1 .1 .1 .first<, s .pre .1 .1 .0 .0) }
 
 loop-holds : tie.Need-loop-holds Inv-loop μ-loop
 loop-holds c =
-    let found = c .before .before .before .look-up .ensures in
-    (omega (arith, found .within), walk-first (omega (arith, found .within)) found, c .look-up2 .ensures)
+    let s = c .before .before .before .before in
+    (omega arith, s .pre .1 .1 .0 .1, λ w f r. walked-none (w .joined) r (s .args .first) _ (w .first<) refl refl)
 
-mul-look-up-2 : tie.Need-mul-look-up-2 Inv-loop μ-loop
-mul-look-up-2 c = search needs
+cast-by : tie.Need-cast-by Inv-loop μ-loop
+cast-by c = record { fits = omega (arith, here c, c .before .before .before .before .before .before .pre .1 .1 .0 .0) }
 
-shared-slice-read-look-up-2 : tie.Need-shared-slice-read-look-up-2 Inv-loop μ-loop
-shared-slice-read-look-up-2 c = search needs
+element-write-by : tie.Need-element-write-by Inv-loop μ-loop
+element-write-by c = omega (arith, c .loop-test .taken, c .before .before .before .before .before .before .pre .1 .1 .0 .0)
 
-look-up-requires-3 : tie.Need-look-up-requires-3 Inv-loop μ-loop
-look-up-requires-3 c κs = search needs
+add-k : tie.Need-add-k Inv-loop μ-loop
+add-k c = search needs
+
+mul-wide : tie.Need-mul-wide Inv-loop μ-loop
+mul-wide c = record { fits = omega (arith, here c, c .before .before .before .before .before .before .pre .1 .1 .0 .0) }
+
+element-copy-out-wide : tie.Need-element-copy-out-wide Inv-loop μ-loop
+element-copy-out-wide c = omega (arith, here c, c .before .before .before .before .before .before .pre .1 .1 .0 .0)
+
+wide-requires : tie.Need-wide-requires Inv-loop μ-loop
+wide-requires c κs = tt
 
 loop-less : tie.Need-loop-less Inv-loop μ-loop
 loop-less c =
     let l = c .before .before .before in
-    let s = l .before .before .before .before .before .before .before .before in
-    let more = c .before .before .loop-test .taken in
-    let small = c .before .shared-slice-known5 .given (l .loop .room) in
-    ahead-falls (s .pre .1 .0) (l .loop .room) (l .loop .further) (omega arith) more (l .loop .inv .2 .hit more .1) (omega (arith, small))
+    let s = l .before .before .before .before .before in
+    let (f, r) = s .pre .0 in
+    let w = s .pre .1 .1 .1 in
+    to-go-falls (s .pre .1 .0 .tall) (s .pre .1 .0 .wide) (λ i. (omega (arith, l .before .before .before .before .shared-slice-known .given i), omega (arith, l .before .before .before .shared-slice-known2 .given i))) (w .joined) r (l .loop .inv .2 w f r) (c .before .before .loop-test .taken) (c .wide .ensures .0 ∙ w .turns (l .loop .at) (omega (arith, here (c .before .before))))
 
 loop-again : tie.Need-loop-again Inv-loop μ-loop
 loop-again c =
     let l = c .before .before .before in
-    let more = c .before .before .loop-test .taken in
-    (more, walk-further more (l .loop .inv .1) (l .loop .inv .2), c .look-up3 .ensures)
+    let s = l .before .before .before .before .before in (
+      omega (arith, c .before .before .loop-test .taken),
+      length-set (l .loop .by) _ _ ∙ l .loop .inv .1,
+      λ w f r. walked-turn (w .joined) r (l .loop .inv .2 w f r) (c .before .before .loop-test .taken) (omega (arith, c .before .before .loop-test .taken, s .pre .1 .1 .0 .0, l .loop .inv .1)) (c .wide .ensures .0 ∙ w .turns (l .loop .at) (omega (arith, here (c .before .before)))),
+    )
 
-returns-2 : tie.Need-returns-2 Inv-loop μ-loop
-returns-2 c = walk-end (c .loop-test .left) (c .before .loop .inv .1) (c .before .loop .inv .2)
+returns : tie.Need-returns Inv-loop μ-loop
+returns c =
+    let l = c .before in
+    let w = l .before .before .before .before .before .pre .1 .1 .1 in
+    (l .loop .inv .1, λ f r k h. l .loop .inv .2 w f r .so-far k (omega (arith, c .loop-test .left)))
 
 pub walk-spec : {M : Type 1} → statement M
 walk-spec =
@@ -68,15 +86,15 @@ walk-spec =
     (tie.spec
     Inv-loop
     μ-loop
-    look-up-requires
-    returns
-    mul-look-up
-    shared-slice-read-look-up
-    look-up-requires-2
+    mul-at
+    add-at
     loop-holds
-    mul-look-up-2
-    shared-slice-read-look-up-2
-    look-up-requires-3
+    cast-by
+    element-write-by
+    add-k
+    mul-wide
+    element-copy-out-wide
+    wide-requires
     loop-less
     loop-again
-    returns-2)
+    returns)

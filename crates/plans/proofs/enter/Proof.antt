@@ -34,7 +34,7 @@ returns-2 : tie.Need-returns-2
 returns-2 c = let s = c .before .before .before .before .before .before .before .before .before in (demand1-rooms-answer (roomsAt s) _ _ _ (count (inr (omega (arith, many s, c .if2 .taken)))), (refl, (refl, refl)))
 
 judge-requires : tie.Need-judge-requires
-judge-requires c κs = search needs
+judge-requires c κs = let s = c .before .before .before .before .before .before .before .before .before .before .before in (s .pre, ((omega (arith, c .before .before .before .if1 .left), omega (arith, c .before .before .if2 .left)), (refl, refl)))
 
 enum-told : tie.Need-enum-told
 enum-told c = search needs
@@ -52,35 +52,39 @@ enum-told-5 : tie.Need-enum-told-5
 enum-told-5 c = search needs
 
 write-requires : tie.Need-write-requires
-write-requires c κs = let j = c .before .before .before .before .before in let s = j .before .before .before .before .before .before .before .before .before .before in (s .pre, subst (VerdictOf (roomsAt s)) (c .before .before .before .enum-told5 .given .1) (j .judge .ensures))
+write-requires c κs =
+    let j = c .before .before .before .before .before .before .before in
+    let s = j .before .before .before .before .before .before .before .before .before .before .before .before in
+    let is = c .before .before .before .before .before .enum-told5 .given .1 in
+    (s .pre, (subst (VerdictOf (roomsAt s)) is (j .judge .ensures .0), (rw is at (j .judge .ensures .1 .1), j .judge .ensures .1 .0)))
 
 returns-3 : tie.Need-returns-3
 returns-3 c =
     let j = c .before .before in
-    let s = j .before .before .before .before .before .before .before .before .before .before in
-    let v = subst (VerdictOf (roomsAt s)) (c .enum-told .given .1) (j .judge .ensures) in
-    (demand1-rooms-answer (roomsAt s) _ _ _ (size (counted (j .before)) v), (refl, (refl, refl)))
+    let s = j .before .before .before .before .before .before .before .before .before .before .before .before in
+    let v = subst (VerdictOf (roomsAt s)) (c .enum-told .given .1) (j .judge .ensures .0) in
+    (demand1-rooms-answer (roomsAt s) _ _ _ (size (counted (j .before .before .before)) v), (refl, (refl, refl)))
 
 returns-4 : tie.Need-returns-4
 returns-4 c =
     let j = c .before .before in
-    let s = j .before .before .before .before .before .before .before .before .before .before in
-    let v = subst (VerdictOf (roomsAt s)) (c .enum-told2 .given .1) (j .judge .ensures) in
-    (demand1-rooms-answer (roomsAt s) _ _ _ (overlap (counted (j .before)) (v .0) (v .1)), (refl, (refl, refl)))
+    let s = j .before .before .before .before .before .before .before .before .before .before .before .before in
+    let v = subst (VerdictOf (roomsAt s)) (c .enum-told2 .given .1) (j .judge .ensures .0) in
+    (demand1-rooms-answer (roomsAt s) _ _ _ (overlap (counted (j .before .before .before)) (v .0) (v .1)), (refl, (refl, refl)))
 
 returns-5 : tie.Need-returns-5
 returns-5 c =
     let j = c .before .before in
-    let s = j .before .before .before .before .before .before .before .before .before .before in
-    let v = subst (VerdictOf (roomsAt s)) (c .enum-told3 .given .1) (j .judge .ensures) in
-    (demand1-rooms-answer (roomsAt s) _ _ _ (uncovered (counted (j .before)) (v .0) (v .1) (v .2)), (refl, (refl, refl)))
+    let s = j .before .before .before .before .before .before .before .before .before .before .before .before in
+    let v = subst (VerdictOf (roomsAt s)) (c .enum-told3 .given .1) (j .judge .ensures .0) in
+    (demand1-rooms-answer (roomsAt s) _ _ _ (uncovered (counted (j .before .before .before)) (v .0) (v .1) (v .2)), (refl, (refl, refl)))
 
 returns-6 : tie.Need-returns-6
 returns-6 c =
     let j = c .before .before in
-    let s = j .before .before .before .before .before .before .before .before .before .before in
-    let v = subst (VerdictOf (roomsAt s)) (c .enum-told4 .given .1) (j .judge .ensures) in
-    (demand1-rooms-answer (roomsAt s) _ _ _ (four-meet (counted (j .before)) (v .0) (v .1) (v .2) (v .3)), (refl, (refl, refl)))
+    let s = j .before .before .before .before .before .before .before .before .before .before .before .before in
+    let v = subst (VerdictOf (roomsAt s)) (c .enum-told4 .given .1) (j .judge .ensures .0) in
+    (demand1-rooms-answer (roomsAt s) _ _ _ (four-meet (counted (j .before .before .before)) (v .0) (v .1) (v .2) (v .3)), (refl, (refl, refl)))
 
 same-length : tie.Need-same-length
 same-length c = search needs
