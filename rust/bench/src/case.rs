@@ -1,21 +1,19 @@
 //! What the calls are timed with.
 
-use compare::question;
-use compare::record_in::Slices;
-use compare::rooms_in::of_library;
-use compare::walk::random_list;
-use compare::{Floorplan, Random};
-use reference::{Numbering, Refusal, Room};
+use crate::outputs::{Drawing, Numbers};
+use crate::room_list::RoomList;
+use compare::{of_library, Floorplan};
+use reference::cases::walk::random_list;
+use reference::cases::Random;
+use reference::Numbering;
 
 /// A plan, as each call takes it. Each call accepts it, so that every step is
 /// walked and every result written.
 pub struct Case {
     pub labels: Vec<u8>,
     pub record: Vec<u8>,
-    /// The drawing of the record, stretched and shuffled, and the same as the
-    /// library takes it.
-    pub rooms: Vec<Room>,
-    pub handed: Vec<nenturxo::Room>,
+    /// The drawing of the record, stretched and shuffled.
+    pub list: RoomList,
     numbering: Numbering,
     /// Two positions to ask for.
     pub first: u8,
@@ -31,12 +29,10 @@ impl Case {
         let mut plan = Floorplan::drawn(&walked.labels);
         plan.stretch(random);
         plan.shuffle(random);
-        let rooms = plan.rooms();
         Self {
             record: walked.record(),
             labels: walked.labels,
-            handed: rooms.iter().copied().map(of_library).collect(),
-            rooms,
+            list: RoomList::new(plan.rooms()),
             numbering: plan.numbering(),
             first: positions[0],
             second: positions[1],
@@ -66,7 +62,7 @@ impl Case {
     }
 
     fn check_record_in(&self) {
-        let (mut library, mut rust) = (Drawn::new(), Drawn::new());
+        let (mut library, mut rust) = (Drawing::new(), Drawing::new());
         let counts = (
             library.slices().library(&self.record).ok(),
             rust.slices().fast(&self.record).ok(),
@@ -78,96 +74,26 @@ impl Case {
     }
 
     fn check_rooms_in(&self) {
-        let (mut library, mut rust) = (Numbered::new(), Numbered::new());
+        let (mut library, mut rust) = (Numbers::new(), Numbers::new());
         let lengths = (
-            library.by_library(&self.handed).ok(),
-            rust.by_tuned(&self.rooms).ok(),
+            library.by_library(&self.list).ok(),
+            rust.by_tuned(&self.list).ok(),
         );
-        let (n, length) = (self.rooms.len(), self.record.len());
-        assert_eq!(lengths, (Some(length), Some(length)), "{:?}", self.rooms);
-        assert_eq!(library.record[..length], self.record, "{:?}", self.rooms);
-        assert_eq!(library.labels[..n], self.numbering.labels);
+        let (rooms, length) = (&self.list.rooms, self.record.len());
+        assert_eq!(lengths, (Some(length), Some(length)), "{rooms:?}");
+        assert_eq!(library.record[..length], self.record, "{rooms:?}");
+        let n = rooms.len();
+        assert_eq!(library.labels[..n], self.numbering.labels, "{rooms:?}");
         assert_eq!(library.positions[..n], self.numbering.positions);
-        assert_eq!(library, rust, "{:?}", self.rooms);
+        assert_eq!(library, rust, "{rooms:?}");
     }
 
     fn check_question(&self) {
         let (first, second) = (self.first, self.second);
         let library = nenturxo::question(&self.record, first, second).ok();
         let rust = reference::fast::question(&self.record, first, second).ok();
-        let rust = rust.map(|(relation, touch)| (question::of_library(relation), touch));
+        let rust = rust.map(|(relation, touch)| (of_library::relation(relation), touch));
         assert!(library.is_some(), "{:02X?} is refused", self.record);
         assert_eq!(library, rust, "{first}, {second} of {:02X?}", self.record);
-    }
-}
-
-/// Output slices of "Record in" that are long enough for every record.
-#[derive(Debug, PartialEq, Eq)]
-pub struct Drawn {
-    labels: [u8; nenturxo::ROOMS_CAPACITY],
-    corners: [[u16; nenturxo::ROOMS_CAPACITY]; 4],
-}
-
-impl Drawn {
-    pub fn new() -> Self {
-        Self {
-            labels: [0; nenturxo::ROOMS_CAPACITY],
-            corners: [[0; nenturxo::ROOMS_CAPACITY]; 4],
-        }
-    }
-
-    pub fn slices(&mut self) -> Slices<'_> {
-        Slices {
-            labels: &mut self.labels,
-            corners: self.corners.each_mut().map(|corner| &mut corner[..]),
-        }
-    }
-}
-
-/// Output slices of "Rooms in" that are long enough for every list.
-#[derive(Debug, PartialEq, Eq)]
-pub struct Numbered {
-    record: [u8; nenturxo::RECORD_CAPACITY],
-    labels: [u8; nenturxo::ROOMS_CAPACITY],
-    positions: [u8; nenturxo::ROOMS_CAPACITY],
-}
-
-impl Numbered {
-    pub fn new() -> Self {
-        Self {
-            record: [0; nenturxo::RECORD_CAPACITY],
-            labels: [0; nenturxo::ROOMS_CAPACITY],
-            positions: [0; nenturxo::ROOMS_CAPACITY],
-        }
-    }
-
-    /// Hands rooms to the library.
-    pub fn by_library(&mut self, rooms: &[nenturxo::Room]) -> Result<usize, nenturxo::Refusal> {
-        let Self {
-            record,
-            labels,
-            positions,
-        } = self;
-        nenturxo::rooms_in(rooms, record, labels, positions)
-    }
-
-    /// Hands rooms to the Rust version that is written straight from the sheet.
-    pub fn by_sheet(&mut self, rooms: &[Room]) -> Result<usize, Refusal> {
-        let Self {
-            record,
-            labels,
-            positions,
-        } = self;
-        reference::rooms_in(rooms, record, labels, positions)
-    }
-
-    /// Hands rooms to the fast Rust version.
-    pub fn by_tuned(&mut self, rooms: &[Room]) -> Result<usize, Refusal> {
-        let Self {
-            record,
-            labels,
-            positions,
-        } = self;
-        reference::fast::rooms_in(rooms, record, labels, positions)
     }
 }

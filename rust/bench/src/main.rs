@@ -4,12 +4,19 @@
 
 #![forbid(unsafe_code)]
 
+mod calls;
 mod case;
+mod outputs;
+mod room_list;
 mod timing;
 
-use case::{Case, Drawn, Numbered};
-use compare::Random;
-use timing::{calls_in_a_round, quickest, Times, ROUNDS};
+use calls::{rooms_in, Call, LABELS_IN, QUESTION, RECORD_IN, ROOMS_IN};
+use case::Case;
+use outputs::Numbers;
+use reference::cases::Random;
+use reference::Refusal;
+use room_list::RoomList;
+use timing::{calls_in_a_round, ROUNDS};
 
 /// Counts of rooms for the time of a call.
 const CALLS: [usize; 3] = [5, 40, 255];
@@ -24,14 +31,6 @@ const PLANS: usize = 512;
 const RECORDS: usize = 100_000;
 const ROOMS_OF_A_SEARCH: usize = 40;
 
-/// A call by name, and how the times of so many calls are taken.
-type Call = (&'static str, fn(&[Case], usize) -> Times);
-
-const LABELS_IN: Call = ("Labels in", labels_in);
-const RECORD_IN: Call = ("Record in", record_in);
-const ROOMS_IN: Call = ("Rooms in", rooms_in);
-const QUESTION: Call = ("Question", question);
-
 fn main() {
     println!("{PLANS} random plans for each n, quickest of {ROUNDS} rounds");
 
@@ -39,7 +38,15 @@ fn main() {
     for call in [LABELS_IN, RECORD_IN, ROOMS_IN, QUESTION] {
         for n in CALLS {
             let cases = cases(n);
-            print_row(call, &cases, calls_in_a_round(&cases), 1.0);
+            print_row(call, &cases, calls_in_a_round(&cases, n), 1.0);
+        }
+    }
+
+    print_refused_head("nanoseconds per call of Rooms in, refused");
+    // All but 1, which only the length of the list decides.
+    for &refusal in &Refusal::OF_ROOMS[1..] {
+        for n in CALLS {
+            print_refused_row(refusal, n);
         }
     }
 
@@ -47,7 +54,7 @@ fn main() {
     for call in [LABELS_IN, RECORD_IN, ROOMS_IN] {
         for n in ROOMS {
             let cases = cases(n);
-            print_row(call, &cases, calls_in_a_round(&cases), 1.0 / n as f64);
+            print_row(call, &cases, calls_in_a_round(&cases, n), 1.0 / n as f64);
         }
     }
 
@@ -64,73 +71,56 @@ fn main() {
 fn cases(n: usize) -> Vec<Case> {
     let mut random = Random::from_seed(n as u64);
     let cases: Vec<Case> = (0..PLANS).map(|_| Case::random(n, &mut random)).collect();
-    for case in &cases {
-        case.check();
-    }
+    cases.iter().for_each(Case::check);
     cases
+}
+
+/// Random lists of `n` rooms. Both versions of Rooms in refuse them so.
+fn refused_lists(refusal: Refusal, n: usize) -> Vec<RoomList> {
+    let mut random = Random::from_seed(n as u64);
+    let mut numbers = Numbers::new();
+    let lists = (0..PLANS).map(|_| RoomList::refused(n, refusal, &mut random));
+    let lists: Vec<RoomList> = lists.collect();
+    for list in &lists {
+        let library = numbers.by_library(list).map_err(|r| r.number());
+        let expected = Err(u32::from(refusal.number()));
+        assert_eq!(library, expected, "{:?}", list.rooms);
+        assert_eq!(numbers.by_tuned(list), Err(refusal), "{:?}", list.rooms);
+    }
+    lists
 }
 
 fn print_head(title: &str) {
     println!("\n{title}");
     print!("{:<9} {:>5} {:>10}", "", "n", "library");
-    println!(
-        " {:>12} {:>6} {:>10} {:>6}",
-        "sheet", "ratio", "tuned", "ratio"
-    );
+    print!(" {:>12} {:>6}", "sheet", "ratio");
+    println!(" {:>10} {:>6}", "tuned", "ratio");
 }
 
 /// Prints the times of a call, taken over so many calls in a round and in the
 /// unit of which a nanosecond per call is `worth` many, and the ratios of the
 /// library to each of the two Rust versions.
-fn print_row((name, times_of): Call, cases: &[Case], calls: usize, worth: f64) {
-    let times = times_of(cases, calls);
-    let [library, sheet, tuned] = [times.library, times.sheet, times.tuned].map(|t| t * worth);
-    let n = cases[0].labels.len();
-    print!("{name:<9} {n:>5} {library:>10.2}");
-    print!(" {sheet:>12.2} {:>6.3}", library / sheet);
-    println!(" {tuned:>10.2} {:>6.2}", library / tuned);
+fn print_row(call: Call, cases: &[Case], calls: usize, worth: f64) {
+    let sheet = (call.sheet)(cases);
+    let times = (call.times)(cases, calls);
+    let (name, n) = (call.name, cases[0].labels.len());
+    print!("{name:<9} {n:>5} {:>10.2}", times.library * worth);
+    print!(" {:>12.2} {:>6.3}", sheet * worth, times.library / sheet);
+    println!(" {:>10.2} {:>6.2}", times.tuned * worth, times.ratio());
 }
 
-fn labels_in(cases: &[Case], calls: usize) -> Times {
-    let mut record = [0; nenturxo::RECORD_CAPACITY];
-    let (mut plain, mut same) = (record, record);
-    quickest(
-        cases,
-        calls,
-        |case| nenturxo::labels_in(&case.labels, &mut record),
-        |case| reference::labels_in(&case.labels, &mut plain),
-        |case| reference::fast::labels_in(&case.labels, &mut same),
-    )
+fn print_refused_head(title: &str) {
+    println!("\n{title}");
+    print!("{:<9} {:>5} {:>10}", "", "n", "library");
+    println!(" {:>10} {:>6}", "tuned", "ratio");
 }
 
-fn record_in(cases: &[Case], calls: usize) -> Times {
-    let [mut drawn, mut plain, mut same] = [Drawn::new(), Drawn::new(), Drawn::new()];
-    quickest(
-        cases,
-        calls,
-        |case| drawn.slices().library(&case.record),
-        |case| plain.slices().sheet(&case.record),
-        |case| same.slices().fast(&case.record),
-    )
-}
-
-fn rooms_in(cases: &[Case], calls: usize) -> Times {
-    let [mut numbered, mut plain, mut same] = [Numbered::new(), Numbered::new(), Numbered::new()];
-    quickest(
-        cases,
-        calls,
-        |case| numbered.by_library(&case.handed),
-        |case| plain.by_sheet(&case.rooms),
-        |case| same.by_tuned(&case.rooms),
-    )
-}
-
-fn question(cases: &[Case], calls: usize) -> Times {
-    quickest(
-        cases,
-        calls,
-        |case| nenturxo::question(&case.record, case.first, case.second),
-        |case| reference::question(&case.record, case.first, case.second),
-        |case| reference::fast::question(&case.record, case.first, case.second),
-    )
+/// Prints the times for lists of `n` rooms that are refused so, and the ratio
+/// of the library to the tuned Rust version.
+fn print_refused_row(refusal: Refusal, n: usize) {
+    let lists = refused_lists(refusal, n);
+    let times = rooms_in(&lists, calls_in_a_round(&lists, n), |list| list);
+    let number = refusal.number();
+    print!("refused {number} {n:>5} {:>10.2}", times.library);
+    println!(" {:>10.2} {:>6.2}", times.tuned, times.ratio());
 }

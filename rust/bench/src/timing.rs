@@ -6,7 +6,6 @@
 //! makes a round slower. The Rust version that is written straight from the
 //! sheet takes so long at times that it has one short turn.
 
-use crate::case::Case;
 use std::hint::black_box;
 use std::time::{Duration, Instant};
 
@@ -22,31 +21,33 @@ const TURN_OF_THE_SHEET: Duration = Duration::from_millis(200);
 /// Nanoseconds per call.
 pub struct Times {
     pub library: f64,
-    /// Of the Rust version that is written straight from the sheet.
-    pub sheet: f64,
     /// Of the Rust version that is written to be fast.
     pub tuned: f64,
 }
 
-/// So many calls that a round has rooms enough, and every case as often as
-/// every other.
-pub fn calls_in_a_round(cases: &[Case]) -> usize {
-    let rooms: usize = cases.iter().map(|case| case.labels.len()).sum();
-    ROOMS_IN_A_ROUND.div_ceil(rooms) * cases.len()
+impl Times {
+    /// The time of the library in those of the tuned version.
+    pub fn ratio(&self) -> f64 {
+        self.library / self.tuned
+    }
+}
+
+/// So many calls that a round of cases with `n` rooms has rooms enough, and
+/// every case as often as every other.
+pub fn calls_in_a_round<T>(cases: &[T], n: usize) -> usize {
+    ROOMS_IN_A_ROUND.div_ceil(n * cases.len()) * cases.len()
 }
 
 /// The times of the quickest rounds of so many calls, which take the cases in
 /// turn. What is written in a case is not cleared before the next.
-pub fn quickest<A, B, C>(
-    cases: &[Case],
+pub fn quickest<T, A, B>(
+    cases: &[T],
     calls: usize,
-    mut library: impl FnMut(&Case) -> A,
-    mut sheet: impl FnMut(&Case) -> B,
-    mut tuned: impl FnMut(&Case) -> C,
+    mut library: impl FnMut(&T) -> A,
+    mut tuned: impl FnMut(&T) -> B,
 ) -> Times {
     let mut least = Times {
         library: f64::INFINITY,
-        sheet: one_turn(cases, &mut sheet),
         tuned: f64::INFINITY,
     };
     for _ in 0..ROUNDS {
@@ -57,7 +58,7 @@ pub fn quickest<A, B, C>(
 }
 
 /// Nanoseconds per call of one round.
-fn round<A>(cases: &[Case], calls: usize, call: &mut impl FnMut(&Case) -> A) -> f64 {
+fn round<T, A>(cases: &[T], calls: usize, call: &mut impl FnMut(&T) -> A) -> f64 {
     let start = Instant::now();
     for case in cases.iter().cycle().take(calls) {
         black_box(call(black_box(case)));
@@ -65,12 +66,13 @@ fn round<A>(cases: &[Case], calls: usize, call: &mut impl FnMut(&Case) -> A) -> 
     start.elapsed().as_nanos() as f64 / calls as f64
 }
 
-/// Nanoseconds per call of as many calls as are begun within the turn.
-fn one_turn<A>(cases: &[Case], call: &mut impl FnMut(&Case) -> A) -> f64 {
+/// Nanoseconds per call of as many calls as are begun within the turn of the
+/// version from the sheet.
+pub fn one_turn<T, A>(cases: &[T], mut sheet: impl FnMut(&T) -> A) -> f64 {
     let start = Instant::now();
     let mut calls = 0;
     for case in cases.iter().cycle() {
-        black_box(call(black_box(case)));
+        black_box(sheet(black_box(case)));
         calls += 1;
         if start.elapsed() >= TURN_OF_THE_SHEET {
             break;

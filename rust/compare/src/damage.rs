@@ -1,7 +1,8 @@
 //! Records with damage that is known.
 
-use crate::random::Random;
-use crate::walk::{biased_list, others_after};
+use crate::causes::first_cause;
+use reference::cases::walk::{biased_list, others_after};
+use reference::cases::Random;
 use reference::{Refusal, Runs, Triple, TRIPLES};
 
 /// What is wrong with a record. There may be any number of causes at once,
@@ -44,16 +45,15 @@ impl Damage {
     /// The refusal that comes first in the sheet's order.
     #[must_use]
     pub fn refusal(self) -> Option<Refusal> {
-        let causes = [
-            (self.no_kind, Refusal::NoKind),
-            (self.body == Body::Short, Refusal::BodyShort),
-            (self.body == Body::Long, Refusal::BytesAfter),
-            (self.spare_bit, Refusal::SpareBit),
-            (self.run_missing, Refusal::RunMissing),
-            (self.runs_left, Refusal::RunsLeft),
+        let are_there = [
+            self.no_kind,
+            self.body == Body::Short,
+            self.body == Body::Long,
+            self.spare_bit,
+            self.run_missing,
+            self.runs_left,
         ];
-        let first = causes.into_iter().find(|(is_there, _)| *is_there);
-        first.map(|(_, refusal)| refusal)
+        first_cause(Refusal::OF_RECORDS, are_there)
     }
 
     /// A random record with this damage and no other.

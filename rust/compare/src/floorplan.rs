@@ -1,8 +1,8 @@
 //! Floorplans whose labels and positions are known from the way in which they
 //! were made.
 
-use crate::random::Random;
-use crate::rooms_in::GivenRooms;
+use crate::given::GivenRooms;
+use reference::cases::Random;
 use reference::{drawing, record_of, triples, Numbering, Room};
 use std::collections::BTreeSet;
 
@@ -144,7 +144,7 @@ impl Floorplan {
         let (Some(start), Some(end)) = (start.max(), end.min()) else {
             return;
         };
-        let other = between(start + 1, end - 1, random);
+        let other = random.number(start + 1, end - 1);
         if self.has_corner((other, from)) || self.has_corner((other, to)) {
             return;
         }
@@ -249,12 +249,6 @@ pub fn some_box(random: &mut Random) -> Room {
     }
 }
 
-/// A number from `first` to `last`, both included.
-pub(crate) fn between(first: u16, last: u16, random: &mut Random) -> u16 {
-    let number = random.between(usize::from(first), usize::from(last));
-    u16::try_from(number).expect("at most `last`")
-}
-
 /// So many rising numbers, of which the first and the last are given, if there
 /// are enough between them.
 fn lines(first: u16, last: u16, count: usize, random: &mut Random) -> Option<Vec<u16>> {
@@ -263,7 +257,7 @@ fn lines(first: u16, last: u16, count: usize, random: &mut Random) -> Option<Vec
     }
     let mut lines = BTreeSet::from([first, last]);
     while lines.len() < count {
-        lines.insert(between(first, last, random));
+        lines.insert(random.number(first, last));
     }
     Some(lines.into_iter().collect())
 }
@@ -272,7 +266,7 @@ fn lines(first: u16, last: u16, count: usize, random: &mut Random) -> Option<Vec
 fn spread(numbers: BTreeSet<u16>, random: &mut Random) -> Vec<(u16, u16)> {
     let least = u16::try_from(numbers.len() - 1).expect("at most 65,536 numbers");
     let width = random.pick(&[least, 2 * least, 40 * least, u16::MAX]);
-    let first = between(0, u16::MAX - width, random);
+    let first = random.number(0, u16::MAX - width);
     let places = lines(first, first + width, numbers.len(), random);
     let places = places.expect("the width is no less than the least one");
     numbers.into_iter().zip(places).collect()

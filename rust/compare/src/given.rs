@@ -1,31 +1,118 @@
-//! A record that cases are made of.
+//! Inputs that cases are made of.
 
 use crate::lent::hex;
-use reference::{plan_of, Plan, Refusal};
+use crate::records::record_length;
+use reference::{numbering_of, plan_of, Numbered, Numbering, Plan, Refusal, Room};
 use std::fmt;
 
-/// A record and what it stands for by the definitions, found once for all
-/// cases of that record.
-#[derive(Clone)]
-pub struct Given {
-    /// The bytes of the record.
-    pub record: Vec<u8>,
-    /// The plan that it stands for, or why there is none.
-    pub plan: Result<Plan, Refusal>,
+/// An input and its answer in slices that are long enough, found once for all
+/// cases of that input.
+#[derive(Clone, Debug)]
+pub struct Given<T, A> {
+    /// The bytes of a record, or the rooms of a list.
+    pub input: Vec<T>,
+    /// What it is answered with, or why it is refused.
+    pub answer: Result<A, Refusal>,
 }
 
-impl Given {
-    /// The record with these bytes.
-    #[must_use]
-    pub fn new(record: impl Into<Vec<u8>>) -> Self {
-        let record = record.into();
-        let plan = plan_of(&record);
-        Self { record, plan }
+/// A record, and the plan that it stands for.
+pub type GivenRecord = Given<u8, Plan>;
+
+/// A room list, and its record, labels and positions.
+pub type GivenRooms = Given<Room, Numbering>;
+
+impl<T, A> Given<T, A> {
+    /// The input whose answer `find` gives.
+    fn answered(input: impl Into<Vec<T>>, find: impl FnOnce(&[T]) -> Result<A, Refusal>) -> Self {
+        let input = input.into();
+        let answer = find(&input);
+        Self { input, answer }
+    }
+
+    /// What follows from the answer, or the refusal.
+    ///
+    /// # Errors
+    ///
+    /// As the answer, or as `follow`.
+    pub fn and_then<B>(&self, follow: impl FnOnce(&A) -> Result<B, Refusal>) -> Result<B, Refusal> {
+        match &self.answer {
+            Ok(answer) => follow(answer),
+            Err(refusal) => Err(*refusal),
+        }
     }
 }
 
-impl fmt::Display for Given {
+impl GivenRecord {
+    /// The record with these bytes, answered by the definitions.
+    #[must_use]
+    pub fn new(record: impl Into<Vec<u8>>) -> Self {
+        Self::answered(record, plan_of)
+    }
+}
+
+impl GivenRooms {
+    /// The list of these rooms, answered by the definitions.
+    #[must_use]
+    pub fn new(rooms: impl Into<Vec<Room>>) -> Self {
+        Self::answered(rooms, numbering_of)
+    }
+
+    /// The list of these rooms, answered by the fast Rust version. For long
+    /// lists the definitions take long.
+    #[must_use]
+    pub fn quick(rooms: impl Into<Vec<Room>>) -> Self {
+        Self::answered(rooms, |rooms| {
+            written(rooms.len(), |slices| {
+                reference::fast::rooms_in(rooms, slices)
+            })
+        })
+    }
+
+    /// The list of these rooms, whose answer is known from the way in which it
+    /// was made.
+    #[must_use]
+    pub fn known(rooms: Vec<Room>, answer: Result<Numbering, Refusal>) -> Self {
+        Self::answered(rooms, |_| answer)
+    }
+
+    /// The least lengths of the output slices, if the list is accepted.
+    #[must_use]
+    pub fn needed(&self) -> [usize; 3] {
+        let n = self.input.len();
+        [record_length(n), n, n]
+    }
+}
+
+/// What a call of "Rooms in" writes for `n` rooms to slices that are long
+/// enough.
+pub(crate) fn written<R>(
+    n: usize,
+    call: impl FnOnce(Numbered<'_>) -> Result<usize, R>,
+) -> Result<Numbering, R> {
+    let mut record = vec![0; nenturxo::RECORD_CAPACITY];
+    let [mut labels, mut positions] = [(); 2].map(|()| vec![0; n]);
+    let length = call([&mut record, &mut labels, &mut positions])?;
+    record.truncate(length);
+    Ok(Numbering {
+        record,
+        labels,
+        positions,
+    })
+}
+
+impl fmt::Display for GivenRecord {
     fn fmt(&self, f: &mut fmt::Formatter<'_>) -> fmt::Result {
-        f.write_str(&hex(&self.record))
+        f.write_str(&hex(&self.input))
+    }
+}
+
+impl fmt::Display for GivenRooms {
+    fn fmt(&self, f: &mut fmt::Formatter<'_>) -> fmt::Result {
+        write!(f, "{} rooms", self.input.len())?;
+        for room in &self.input {
+            let [left, bottom, right, top] = [room.left, room.bottom, room.right, room.top];
+            write!(f, " ({left},{bottom},{right},{top})")?;
+        }
+        Ok(())
     }
 }

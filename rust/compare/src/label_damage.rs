@@ -1,6 +1,6 @@
 //! Damage that is done to label lists.
 
-use crate::random::Random;
+use reference::cases::Random;
 
 /// Two different places of a list, which has two at least.
 pub fn two_places(labels: &[u8], random: &mut Random) -> (usize, usize) {

@@ -1,7 +1,7 @@
 //! Slices that are lent to a call as the middle parts of larger buffers, so
 //! that whatever a call does outside of them shows, and as whole buffers.
 
-use crate::rooms_in::of_library;
+use crate::of_library;
 use std::fmt;
 
 /// What stands in and around the lent slices before a call.
@@ -35,7 +35,7 @@ pub const SURROUNDINGS: [Surroundings; 3] = [
 ];
 
 /// An entry of a lent slice.
-pub trait Entry: Copy + Eq {
+pub trait Entry: Copy + Eq + fmt::Debug {
     /// The entry whose bytes are all `fill`.
     fn of_bytes(fill: u8) -> Self;
 }
@@ -54,19 +54,13 @@ impl Entry for u16 {
 
 impl Entry for reference::Room {
     fn of_bytes(fill: u8) -> Self {
-        let corner = u16::of_bytes(fill);
-        Self {
-            left: corner,
-            bottom: corner,
-            right: corner,
-            top: corner,
-        }
+        Self::from([u16::of_bytes(fill); 4])
     }
 }
 
 impl Entry for nenturxo::Room {
     fn of_bytes(fill: u8) -> Self {
-        of_library(Entry::of_bytes(fill))
+        of_library::room(Entry::of_bytes(fill))
     }
 }
 
@@ -92,9 +86,12 @@ impl<T: Entry> Input<T> {
         &self.buffer[margin..self.buffer.len() - margin]
     }
 
-    /// Whether the slice is still `entries` and all around it as it was.
-    pub fn is_still(&self, entries: &[T]) -> bool {
-        self.buffer == Self::new(entries, self.around).buffer
+    /// Stops unless the slice is still `entries` and all around it as it was.
+    pub fn expect_still(&self, entries: &[T]) {
+        assert!(
+            self.buffer == Self::new(entries, self.around).buffer,
+            "a call wrote where its input stands: {entries:?}"
+        );
     }
 }
 

@@ -1,45 +1,28 @@
-//! The comparison of one run of the program `plandraw`.
+//! What the program `plandraw` should draw.
 //!
 //! What a picture means is compared, and not its text: where the rooms and the
 //! segments stand, and what is written in the rooms. Its measures are taken
 //! from the picture itself.
 
-use crate::lent::hex;
 use crate::program::Program;
 use crate::svg::{self, Element};
-use crate::tally::Tally;
 use reference::{plan_of, segments, Edge, Line, Plan, Room, Segment};
 use std::collections::BTreeSet;
 
-impl Tally {
-    /// Gives the program an input and compares what it draws with the plan of
-    /// the definitions. A refused record must give the line of `planlist`.
+impl Program {
+    /// The program `plandraw`, which the variable `NENTURXO_PLANDRAW` names.
+    /// What it draws is compared with the plan of the definitions. A refused
+    /// record must give the line of `planlist`.
     ///
     /// # Panics
     ///
-    /// If it prints anything else.
-    pub fn plandraw(&mut self, program: &Program, input: &[u8]) {
-        self.plandraw_in_pieces(program, &[input]);
-    }
-
-    /// As [`Self::plandraw`], for an input that comes in pieces with pauses.
-    ///
-    /// # Panics
-    ///
-    /// As there.
-    pub fn plandraw_in_pieces(&mut self, program: &Program, pieces: &[&[u8]]) {
-        let input = pieces.concat();
-        let printed = program.printed(pieces);
-        let plan = plan_of(&input);
-        let compared = match &plan {
-            Ok(plan) => compare(&printed, plan),
-            Err(_) => ensure(printed == reference::planlist(&input), "another line"),
-        };
-        if let Err(difference) = compared {
-            let input = hex(&input);
-            panic!("another picture: {difference}\ninput   {input}\nprinted {printed}");
-        }
-        self.count(&plan);
+    /// Without that variable.
+    #[must_use]
+    pub fn plandraw() -> Self {
+        Self::named_by("NENTURXO_PLANDRAW", |printed, input| match plan_of(input) {
+            Ok(plan) => compare(printed, &plan),
+            Err(_) => ensure(printed == reference::planlist(input), "another line"),
+        })
     }
 }
 

@@ -1,5 +1,8 @@
 //! Runs of the programs.
 
+use crate::lent::hex;
+use crate::tally::Tally;
+use reference::plan_of;
 use std::env;
 use std::io::{ErrorKind, Write};
 use std::path::PathBuf;
@@ -10,33 +13,23 @@ use std::time::Duration;
 /// The time between two pieces of an input.
 const PAUSE: Duration = Duration::from_millis(20);
 
-/// A program.
-pub struct Program(PathBuf);
+/// Says what is wrong with what is printed for an input.
+type Judge = fn(printed: &str, input: &[u8]) -> Result<(), String>;
+
+/// A program, and what it should print.
+pub struct Program {
+    path: PathBuf,
+    judge: Judge,
+}
 
 impl Program {
-    /// The program `planlist`, which the variable `NENTURXO_PLANLIST` names.
-    ///
-    /// # Panics
-    ///
-    /// Without that variable.
-    #[must_use]
-    pub fn planlist() -> Self {
-        Self::named_by("NENTURXO_PLANLIST")
-    }
-
-    /// The program `plandraw`, which the variable `NENTURXO_PLANDRAW` names.
-    ///
-    /// # Panics
-    ///
-    /// Without that variable.
-    #[must_use]
-    pub fn plandraw() -> Self {
-        Self::named_by("NENTURXO_PLANDRAW")
-    }
-
-    fn named_by(variable: &str) -> Self {
+    /// The program that a variable names.
+    pub(crate) fn named_by(variable: &str, judge: Judge) -> Self {
         let path = env::var_os(variable).unwrap_or_else(|| panic!("{variable} is not set"));
-        Self(PathBuf::from(path))
+        Self {
+            path: PathBuf::from(path),
+            judge,
+        }
     }
 
     /// What the program prints for an input that comes in pieces.
@@ -46,11 +39,11 @@ impl Program {
     /// If the program does not start, or does not end by itself.
     #[must_use]
     pub fn printed(&self, pieces: &[&[u8]]) -> String {
-        let mut child = Command::new(&self.0)
+        let mut child = Command::new(&self.path)
             .stdin(Stdio::piped())
             .stdout(Stdio::piped())
             .spawn()
-            .unwrap_or_else(|error| panic!("{} did not start: {error}", self.0.display()));
+            .unwrap_or_else(|error| panic!("{} did not start: {error}", self.path.display()));
         let mut input = child.stdin.take().expect("the input is a pipe");
         for (count, piece) in pieces.iter().enumerate() {
             if count > 0 {
@@ -69,5 +62,31 @@ impl Program {
 fn write(input: &mut ChildStdin, piece: &[u8]) {
     if let Err(error) = input.write_all(piece) {
         assert_eq!(error.kind(), ErrorKind::BrokenPipe, "{error}");
+    }
+}
+
+impl Tally {
+    /// Gives a program an input and compares what it prints.
+    ///
+    /// # Panics
+    ///
+    /// If it prints anything else than it should.
+    pub fn run(&mut self, program: &Program, input: &[u8]) {
+        self.run_in_pieces(program, &[input]);
+    }
+
+    /// As [`Self::run`], for an input that comes in pieces with pauses.
+    ///
+    /// # Panics
+    ///
+    /// As there.
+    pub fn run_in_pieces(&mut self, program: &Program, pieces: &[&[u8]]) {
+        let input = pieces.concat();
+        let printed = program.printed(pieces);
+        if let Err(difference) = (program.judge)(&printed, &input) {
+            let input = hex(&input);
+            panic!("{difference}\ninput   {input}\nprinted {printed}");
+        }
+        self.count(&plan_of(&input));
     }
 }

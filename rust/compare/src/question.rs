@@ -1,7 +1,9 @@
 //! The comparison of one case of the question.
 
-use crate::given::Given;
+use crate::given::GivenRecord;
 use crate::lent::{Input, Surroundings, SURROUNDINGS};
+use crate::of_library;
+use crate::outcome::number;
 use crate::tally::Tally;
 use reference::{Refusal, Relation};
 
@@ -15,12 +17,8 @@ impl Tally {
     /// # Panics
     ///
     /// If they differ, or one of them writes where the record stands.
-    pub fn question(&mut self, given: &Given, first: u8, second: u8) -> Answer {
-        let answer = given
-            .plan
-            .as_ref()
-            .map_err(|&refusal| refusal)
-            .and_then(|plan| plan.question(first, second));
+    pub fn question(&mut self, given: &GivenRecord, first: u8, second: u8) -> Answer {
+        let answer = given.and_then(|plan| plan.question(first, second));
         for around in SURROUNDINGS {
             compare(given, first, second, answer, around);
         }
@@ -33,7 +31,7 @@ impl Tally {
     /// # Panics
     ///
     /// If the answer is another, or as [`Self::question`].
-    pub fn expect_answer(&mut self, given: &Given, first: u8, second: u8, expected: Answer) {
+    pub fn expect_answer(&mut self, given: &GivenRecord, first: u8, second: u8, expected: Answer) {
         let answer = self.question(given, first, second);
         assert_eq!(answer, expected, "record {given}, {first} to {second}");
     }
@@ -41,14 +39,14 @@ impl Tally {
 
 /// Holds the library and the fast Rust version to the answer of the
 /// definitions.
-fn compare(given: &Given, first: u8, second: u8, answer: Answer, around: Surroundings) {
-    let lent = Input::new(&given.record, around);
+fn compare(given: &GivenRecord, first: u8, second: u8, answer: Answer, around: Surroundings) {
+    let lent = Input::new(&given.input, around);
     let record = lent.slice();
     let fast = reference::fast::question(record, first, second);
     let library = nenturxo::question(record, first, second);
     let expected = answer
-        .map(|(relation, touch)| (of_library(relation), touch))
-        .map_err(|refusal| u32::from(refusal.number()));
+        .map(|(relation, touch)| (of_library::relation(relation), touch))
+        .map_err(number);
     assert!(
         fast == answer && library.map_err(|refusal| refusal.number()) == expected,
         "the versions differ\n\
@@ -58,19 +56,5 @@ fn compare(given: &Given, first: u8, second: u8, answer: Answer, around: Surroun
          definitions {answer:?}\n\
          fast        {fast:?}"
     );
-    assert!(
-        lent.is_still(&given.record),
-        "the question about {first} and {second} of {given} wrote where the record stands"
-    );
-}
-
-/// The relation as the library names it.
-#[must_use]
-pub fn of_library(relation: Relation) -> nenturxo::Relation {
-    match relation {
-        Relation::Left => nenturxo::Relation::Left,
-        Relation::Right => nenturxo::Relation::Right,
-        Relation::Above => nenturxo::Relation::Above,
-        Relation::Below => nenturxo::Relation::Below,
-    }
+    lent.expect_still(&given.input);
 }

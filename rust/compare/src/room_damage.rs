@@ -1,18 +1,14 @@
 //! Room lists with damage that is known.
 
-use crate::floorplan::{between, Floorplan};
-use crate::random::Random;
+use crate::causes::first_cause;
+use crate::floorplan::Floorplan;
+use reference::cases::Random;
 use reference::{Refusal, Room};
 
-/// What is wrong with a room list. There may be any number of causes at once.
+/// What is wrong with a room list: of each cause of a refusal, in the sheet's
+/// order, whether it is there. There may be any number of them at once.
 #[derive(Clone, Copy, Debug)]
-pub struct RoomDamage {
-    too_many: bool,
-    empty_room: bool,
-    shared_square: bool,
-    open_square: bool,
-    four_meet: bool,
-}
+pub struct RoomDamage([bool; 5]);
 
 impl RoomDamage {
     /// The number of combinations.
@@ -22,50 +18,43 @@ impl RoomDamage {
     /// are too many.
     pub const MORE: usize = 5;
 
+    /// The damage that is refused so, and no other.
+    #[must_use]
+    pub fn only(refusal: Refusal) -> Self {
+        Self(Refusal::OF_ROOMS.map(|cause| cause == refusal))
+    }
+
     /// Every combination, no damage too.
     pub fn all() -> impl Iterator<Item = Self> {
-        (0..Self::COUNT).map(|bits| Self {
-            too_many: bits & 1 != 0,
-            empty_room: bits & 2 != 0,
-            shared_square: bits & 4 != 0,
-            open_square: bits & 8 != 0,
-            four_meet: bits & 16 != 0,
-        })
+        (0..Self::COUNT).map(|bits| Self([1, 2, 4, 8, 16].map(|worth| bits & worth != 0)))
     }
 
     /// The refusal that comes first in the sheet's order.
     #[must_use]
     pub fn refusal(self) -> Option<Refusal> {
-        let causes = [
-            (self.too_many, Refusal::ListLength),
-            (self.empty_room, Refusal::EmptyRoom),
-            (self.shared_square, Refusal::SharedSquare),
-            (self.open_square, Refusal::OpenSquare),
-            (self.four_meet, Refusal::FourRoomsMeet),
-        ];
-        let first = causes.into_iter().find(|(is_there, _)| *is_there);
-        first.map(|(_, refusal)| refusal)
+        first_cause(Refusal::OF_ROOMS, self.0)
     }
 
     /// The rooms of a plan with this damage and no other, in a random order.
-    /// Some room of the plan is [suited](is_suited).
+    /// The plan is [suited](are_suited).
     pub fn rooms(self, plan: &Floorplan, random: &mut Random) -> Vec<Room> {
+        let [too_many, empty_room, shared_square, open_square, four_meet] = self.0;
         let mut rooms = plan.rooms();
-        if self.four_meet {
+        if four_meet {
             // Edges that can still be drawn back, if need be.
-            let least = 1 + u16::from(self.open_square);
+            let least = 1 + u16::from(open_square);
             cut_in_four(&mut rooms, least, random);
         }
-        if self.open_square {
+        if open_square {
             draw_back_an_edge(&mut rooms, random);
         }
-        if self.shared_square {
+        if shared_square {
             share_squares(&mut rooms, random);
         }
-        if self.empty_room {
+        if empty_room {
             empty_a_room(&mut rooms, random);
         }
-        if self.too_many {
+        if too_many {
             let count = random.pick(&[256, 257, 300, 1000]);
             rooms = rooms.into_iter().cycle().take(count).collect();
         }
@@ -74,14 +63,29 @@ impl RoomDamage {
     }
 }
 
-/// Whether every damage can be done to a room of a plan: it is wide and high
-/// enough to be cut, and its right or its top is not on the outline.
+/// Whether every damage can be done to the plan of these rooms: to some room
+/// that is wide and high enough to be cut, and whose right or top is not on the
+/// outline.
 #[must_use]
-pub fn is_suited(room: &Room, plan: &[Room]) -> bool {
-    room.right - room.left >= 4
-        && room.top - room.bottom >= 4
-        && (plan.iter().any(|other| other.right > room.right)
-            || plan.iter().any(|other| other.top > room.top))
+pub fn are_suited(rooms: &[Room]) -> bool {
+    let is_inside = |room: &Room| {
+        let ends_first = |other: &Room| other.right > room.right || other.top > room.top;
+        rooms.iter().any(ends_first)
+    };
+    let is_large = |room: &Room| room.right - room.left >= 4 && room.top - room.bottom >= 4;
+    rooms.iter().any(|room| is_large(room) && is_inside(room))
+}
+
+/// A moved drawing of at least two labels that every damage can be done to.
+pub fn suited_plan(labels: &[u8], random: &mut Random) -> Floorplan {
+    let mut plan = Floorplan::drawn(labels);
+    loop {
+        plan.stretch(random);
+        plan.slide(4, random);
+        if are_suited(&plan.rooms()) {
+            return plan;
+        }
+    }
 }
 
 /// Puts one of the four numbers of a room at an end of what there is, at a
@@ -118,8 +122,8 @@ fn cut_in_four(rooms: &mut Vec<Room>, least: u16, random: &mut Random) {
     let is_wide = |room: &Room| (room.right - room.left).min(room.top - room.bottom) >= 2 * least;
     let at = some_room(rooms, is_wide, random);
     let room = rooms.swap_remove(at);
-    let x = between(room.left + least, room.right - least, random);
-    let y = between(room.bottom + least, room.top - least, random);
+    let x = random.number(room.left + least, room.right - least);
+    let y = random.number(room.bottom + least, room.top - least);
     for (left, right) in [(room.left, x), (x, room.right)] {
         for (bottom, top) in [(room.bottom, y), (y, room.top)] {
             rooms.push(Room {
@@ -141,9 +145,9 @@ fn draw_back_an_edge(rooms: &mut [Room], random: &mut Random) {
     let at = some_room(rooms, |room| has_right(room) || has_top(room), random);
     let room = &mut rooms[at];
     if has_right(room) {
-        room.right = between(room.left + 1, room.right - 1, random);
+        room.right = random.number(room.left + 1, room.right - 1);
     } else {
-        room.top = between(room.bottom + 1, room.top - 1, random);
+        room.top = random.number(room.bottom + 1, room.top - 1);
     }
 }
 
@@ -154,8 +158,8 @@ fn share_squares(rooms: &mut Vec<Room>, random: &mut Random) {
     match random.below(3) {
         0 => {}
         1 => {
-            added.left = between(added.left, added.right - 1, random);
-            added.bottom = between(added.bottom, added.top - 1, random);
+            added.left = random.number(added.left, added.right - 1);
+            added.bottom = random.number(added.bottom, added.top - 1);
             (added.right, added.top) = (added.left + 1, added.bottom + 1);
         }
         _ => {

@@ -1,67 +1,13 @@
 //! The comparison of one case of "Rooms in".
 
 use crate::floorplan::Floorplan;
-use crate::lent::{Entry, Input, Output, Surroundings, SURROUNDINGS};
-use crate::lists::record_length;
+use crate::given::{written, GivenRooms};
+use crate::lent::{Output, Surroundings};
+use crate::of_library;
+use crate::outcome::{fitting, number, Answer, Outcome, Outcomes};
 use crate::tally::Tally;
-use reference::{numbering_of, Numbering, Refusal, Room};
+use reference::{Numbered, Numbering, Refusal, Room};
 use std::fmt;
-
-/// A room list that cases are made of, and its answer in slices that are long
-/// enough, found once for all of them.
-#[derive(Clone, Debug)]
-pub struct GivenRooms {
-    /// The rooms.
-    pub rooms: Vec<Room>,
-    /// Their record, labels and positions, or why there are none.
-    pub answer: Result<Numbering, Refusal>,
-}
-
-impl GivenRooms {
-    /// The list of these rooms, answered by the definitions.
-    #[must_use]
-    pub fn new(rooms: impl Into<Vec<Room>>) -> Self {
-        let rooms = rooms.into();
-        let answer = numbering_of(&rooms);
-        Self { rooms, answer }
-    }
-
-    /// The list of these rooms, answered by the fast Rust version. For long
-    /// lists the definitions take long.
-    #[must_use]
-    pub fn quick(rooms: impl Into<Vec<Room>>) -> Self {
-        let rooms = rooms.into();
-        let answer = written(rooms.len(), |[record, labels, positions]| {
-            reference::fast::rooms_in(&rooms, record, labels, positions)
-        });
-        Self { rooms, answer }
-    }
-
-    /// The list of these rooms, whose answer is known from the way in which it
-    /// was made.
-    #[must_use]
-    pub fn known(rooms: Vec<Room>, answer: Result<Numbering, Refusal>) -> Self {
-        Self { rooms, answer }
-    }
-
-    /// The least lengths of the output slices, if the list is accepted.
-    #[must_use]
-    pub fn needed(&self) -> Capacities {
-        let n = self.rooms.len();
-        [record_length(n), n, n]
-    }
-}
-
-impl fmt::Display for GivenRooms {
-    fn fmt(&self, f: &mut fmt::Formatter<'_>) -> fmt::Result {
-        write!(f, "{} rooms", self.rooms.len())?;
-        for room in &self.rooms {
-            let [left, bottom, right, top] = [room.left, room.bottom, room.right, room.top];
-            write!(f, " ({left},{bottom},{right},{top})")?;
-        }
-        Ok(())
-    }
-}
 
 /// The lengths of the output slices: for the record, the labels and the
 /// positions.
@@ -75,15 +21,21 @@ impl Tally {
     /// # Panics
     ///
     /// If they differ in their answer or in any entry in or around the slices.
-    pub fn rooms_in(
-        &mut self,
-        given: &GivenRooms,
-        capacities: Capacities,
-    ) -> Result<usize, Refusal> {
-        // The answer does not depend on what stands around, so one is all.
-        let answers = SURROUNDINGS.map(|around| agreed(given, capacities, around));
-        self.count(&answers[0]);
-        answers[0]
+    pub fn rooms_in(&mut self, given: &GivenRooms, capacities: Capacities) -> Answer {
+        self.in_surroundings(|around| agreed(given, capacities, around))
+    }
+
+    /// Compares a list that is accepted where all slices are long enough, and
+    /// else refused with 15.
+    ///
+    /// # Panics
+    ///
+    /// If the answer is another, or as [`Self::rooms_in`].
+    pub fn expect_numbers(&mut self, given: &GivenRooms, capacities: Capacities) {
+        let needed = given.needed();
+        let answer = self.rooms_in(given, capacities);
+        let expected = fitting(needed[0], needed, capacities);
+        assert_eq!(answer, expected, "{given} into {capacities:?}");
     }
 
     /// Compares the rooms of a plan as [`Self::rooms`] does, with the answer
@@ -111,7 +63,7 @@ impl Tally {
             let [record, n, _] = given.needed();
             // Which slice is the short one goes round with the lists.
             let mut short = [record + 1, n + 1, n + 1];
-            short[usize::from(given.rooms[0].right) % 3] -= 2;
+            short[usize::from(given.input[0].right) % 3] -= 2;
             [[record, n, n], [record + 3, n + 1, n + 2], short]
         } else {
             [[0; 3], [2, 1, 0], [97, 255, 255]]
@@ -122,133 +74,70 @@ impl Tally {
     }
 }
 
-/// The rooms with these corners: left, bottom, right, top.
-#[must_use]
-pub fn rooms(corners: &[[u16; 4]]) -> Vec<Room> {
-    corners.iter().copied().map(Room::from).collect()
-}
-
 /// What the library answers a room list with, in slices that are long enough.
 ///
 /// # Errors
 ///
 /// As [`nenturxo::rooms_in`].
 pub fn library_numbering(rooms: &[Room]) -> Result<Numbering, nenturxo::Refusal> {
-    let rooms: Vec<nenturxo::Room> = rooms.iter().copied().map(of_library).collect();
+    let rooms = of_library::rooms(rooms);
     written(rooms.len(), |[record, labels, positions]| {
         nenturxo::rooms_in(&rooms, record, labels, positions)
     })
 }
 
-/// What a call writes for `n` rooms to slices that are long enough.
-fn written<R>(
-    n: usize,
-    call: impl FnOnce([&mut [u8]; 3]) -> Result<usize, R>,
-) -> Result<Numbering, R> {
-    let mut record = vec![0; nenturxo::RECORD_CAPACITY];
-    let [mut labels, mut positions] = [(); 2].map(|()| vec![0; n]);
-    let length = call([&mut record, &mut labels, &mut positions])?;
-    record.truncate(length);
-    Ok(Numbering {
-        record,
-        labels,
-        positions,
-    })
-}
-
-/// A room as the library takes it.
-#[must_use]
-pub fn of_library(room: Room) -> nenturxo::Room {
-    nenturxo::Room {
-        left: room.left,
-        bottom: room.bottom,
-        right: room.right,
-        top: room.top,
-    }
-}
-
-/// One version's answer to a case: what it returned, a refusal as its number,
-/// and the slices for record, labels and positions after it.
+/// The slices for record, labels and positions with their surroundings.
 #[derive(PartialEq, Eq)]
-struct Outcome {
-    returned: Result<usize, u32>,
-    outputs: [Output<u8>; 3],
-}
+struct Outputs([Output<u8>; 3]);
 
-impl Outcome {
-    /// Runs `call` on lent slices.
-    fn of<R: Entry>(
-        rooms: &[R],
-        capacities: Capacities,
-        around: Surroundings,
-        call: impl FnOnce(&[R], [&mut [u8]; 3]) -> Result<usize, u32>,
-    ) -> Self {
-        let lent = Input::new(rooms, around);
-        let mut outputs = capacities.map(|capacity| Output::new(capacity, around));
-        let returned = call(lent.slice(), outputs.each_mut().map(Output::slice));
-        assert!(
-            lent.is_still(rooms),
-            "a call with {} rooms and capacities {capacities:?} wrote where they stand",
-            rooms.len()
-        );
-        Self { returned, outputs }
+impl Outputs {
+    fn new(capacities: Capacities, around: Surroundings) -> Self {
+        Self(capacities.map(|capacity| Output::new(capacity, around)))
     }
 
-    /// Whether all but what an accepted list of `n` rooms gives is as it was.
-    fn is_clean(&self, n: usize) -> bool {
-        let written = self.returned.map_or([0; 3], |length| [length, n, n]);
-        let mut outputs = self.outputs.iter().zip(written);
+    fn slices(&mut self) -> Numbered<'_> {
+        self.0.each_mut().map(Output::slice)
+    }
+
+    /// Whether all but the first `written` entries of the slices, and all
+    /// around them, are as they were.
+    fn are_clean_after(&self, written: [usize; 3]) -> bool {
+        let mut outputs = self.0.iter().zip(written);
         outputs.all(|(output, written)| output.is_clean_after(written))
     }
 }
 
-impl fmt::Display for Outcome {
+impl fmt::Display for Outputs {
     fn fmt(&self, f: &mut fmt::Formatter<'_>) -> fmt::Result {
-        match self.returned {
-            Ok(length) => write!(f, "length {length}")?,
-            Err(number) => write!(f, "refusal {number}")?,
-        }
-        let [record, labels, positions] = &self.outputs;
-        write!(f, ", record {record}, labels {labels}")?;
-        write!(f, ", positions {positions}")
+        let [record, labels, positions] = &self.0;
+        write!(f, "record {record}, labels {labels}, positions {positions}")
     }
 }
 
 /// The answer that the library and the fast Rust version agree on with what is
 /// known of the list.
-fn agreed(
-    given: &GivenRooms,
-    capacities: Capacities,
-    around: Surroundings,
-) -> Result<usize, Refusal> {
-    let number = |refusal: Refusal| u32::from(refusal.number());
-    let rooms = &given.rooms[..];
+fn agreed(given: &GivenRooms, capacities: Capacities, around: Surroundings) -> Answer {
+    let (rooms, outputs) = (&given.input[..], || Outputs::new(capacities, around));
+    let handed = of_library::rooms(rooms);
     let mut answer = Err(Refusal::ListLength);
-    let expected = Outcome::of(rooms, capacities, around, |_, slices| {
-        let [record, labels, positions] = slices;
-        answer = match &given.answer {
-            Ok(numbering) => numbering.write(record, labels, positions),
-            Err(refusal) => Err(*refusal),
-        };
-        answer.map_err(number)
-    });
-    let fast = Outcome::of(rooms, capacities, around, |rooms, slices| {
-        let [record, labels, positions] = slices;
-        reference::fast::rooms_in(rooms, record, labels, positions).map_err(number)
-    });
-    let handed: Vec<nenturxo::Room> = rooms.iter().copied().map(of_library).collect();
-    let library = Outcome::of(&handed, capacities, around, |rooms, slices| {
-        let [record, labels, positions] = slices;
-        nenturxo::rooms_in(rooms, record, labels, positions).map_err(|refusal| refusal.number())
-    });
-    assert!(
-        library == expected && fast == expected && library.is_clean(rooms.len()),
-        "the versions differ, or entries changed that must not\n\
-         list       {given}\n\
-         capacities {capacities:?}\n\
-         library    {library}\n\
-         expected   {expected}\n\
-         fast       {fast}"
+    let outcomes = Outcomes {
+        expected: Outcome::of(rooms, outputs(), around, |_, outputs| {
+            answer = given.and_then(|numbering| numbering.write(outputs.slices()));
+            answer.map_err(number)
+        }),
+        fast: Outcome::of(rooms, outputs(), around, |rooms, outputs| {
+            reference::fast::rooms_in(rooms, outputs.slices()).map_err(number)
+        }),
+        library: Outcome::of(&handed, outputs(), around, |rooms, outputs| {
+            let [record, labels, positions] = outputs.slices();
+            let answer = nenturxo::rooms_in(rooms, record, labels, positions);
+            answer.map_err(|refusal| refusal.number())
+        }),
+    };
+    let n = rooms.len();
+    outcomes.agree(
+        format_args!("list {given}, capacities {capacities:?}"),
+        |outputs| outputs.are_clean_after(answer.map_or([0; 3], |length| [length, n, n])),
     );
     answer
 }

@@ -45,6 +45,43 @@ impl Tally {
         self.refused[usize::from(refusal.number())]
     }
 
+    /// Stops unless just so many cases were refused with these.
+    ///
+    /// # Panics
+    ///
+    /// If not so.
+    pub fn expect_refused<const COUNTS: usize>(
+        &self,
+        refusals: [Refusal; COUNTS],
+        counts: [usize; COUNTS],
+    ) {
+        assert_eq!(refusals.map(|r| self.refused(r)), counts, "{refusals:?}");
+    }
+
+    /// Stops unless more than so many cases were refused with each of these:
+    /// else too little of it would have been tried.
+    ///
+    /// # Panics
+    ///
+    /// If not so.
+    pub fn expect_often(&self, count: usize, refusals: &[Refusal]) {
+        for &refusal in refusals {
+            assert!(self.refused(refusal) > count, "too few with {refusal:?}");
+        }
+    }
+
+    /// Prints the counts for so many inputs, each of which was accepted in two
+    /// cases and refused in a third one, where a slice was too short.
+    ///
+    /// # Panics
+    ///
+    /// If not so.
+    pub fn finish_in_threes(self, inputs: usize) {
+        assert_eq!(self.accepted, 2 * inputs, "{self}");
+        self.expect_refused([Refusal::SliceShort], [inputs]);
+        self.finish(3 * inputs);
+    }
+
     /// Prints the counts.
     ///
     /// # Panics

@@ -29,6 +29,7 @@ fn in_turn(entries: &[u16], first: impl Fn(u16) -> bool, second: impl Fn(u16) ->
 #[cfg(test)]
 mod tests {
     use super::is_barred;
+    use crate::cases::{every_list, Random};
 
     /// The definition to the letter: all four positions are searched.
     fn is_barred_to_the_letter(labels: &[u8]) -> bool {
@@ -50,21 +51,11 @@ mod tests {
         false
     }
 
-    /// Every list of `length` entries below `alphabet`.
-    fn lists(alphabet: u8, length: u32) -> impl Iterator<Item = Vec<u8>> {
-        let base = usize::from(alphabet);
-        (0..base.pow(length)).map(move |number| {
-            (0..length)
-                .map(|place| u8::try_from(number / base.pow(place) % base).unwrap())
-                .collect()
-        })
-    }
-
     #[test]
     fn agrees_with_the_definition_to_the_letter_on_every_small_list() {
         let mut barred = 0;
-        for (alphabet, length) in [(9, 4), (7, 5), (7, 6), (6, 7)] {
-            for labels in lists(alphabet, length) {
+        for (greatest, length) in [(8, 4), (6, 5), (6, 6), (5, 7)] {
+            for labels in every_list(greatest, length) {
                 let answer = is_barred(&labels);
                 assert_eq!(answer, is_barred_to_the_letter(&labels), "{labels:?}");
                 barred += usize::from(answer);
@@ -75,14 +66,13 @@ mod tests {
 
     #[test]
     fn agrees_with_the_definition_to_the_letter_on_shuffled_lists() {
-        let mut state: u32 = 1;
+        let mut random = Random::from_seed(1);
         let mut barred = 0;
         for round in 0..400 {
             // A slight shuffle: 0 to 39 times two neighbours trade places.
             let mut labels: Vec<u8> = (200..=255).collect();
             for _ in 0..round % 40 {
-                state = state.wrapping_mul(1_664_525).wrapping_add(1_013_904_223);
-                let place = (state >> 16) as usize % (labels.len() - 1);
+                let place = random.below(labels.len() - 1);
                 labels.swap(place, place + 1);
             }
             let answer = is_barred(&labels);

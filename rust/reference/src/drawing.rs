@@ -62,29 +62,7 @@ fn last_position(labels: &[u8]) -> u16 {
 #[cfg(test)]
 mod tests {
     use super::{drawing, Room};
-
-    fn rooms(corners: &[[u16; 4]]) -> Vec<Room> {
-        corners.iter().copied().map(Room::from).collect()
-    }
-
-    /// Calls `visit` with every order of the labels from `fixed` on.
-    fn each_order(labels: &mut [u8], fixed: usize, visit: &mut impl FnMut(&[u8])) {
-        if fixed == labels.len() {
-            visit(labels);
-        }
-        for other in fixed..labels.len() {
-            labels.swap(fixed, other);
-            each_order(labels, fixed + 1, visit);
-            labels.swap(fixed, other);
-        }
-    }
-
-    /// Calls `visit` with every list of up to `most` labels, each once.
-    fn each_permutation(most: u8, mut visit: impl FnMut(&[u8])) {
-        for n in 1..=most {
-            each_order(&mut (1..=n).collect::<Vec<u8>>(), 0, &mut visit);
-        }
-    }
+    use crate::cases::{each_permutation, rooms, worked};
 
     /// Algorithm BP2FP as 001 prints it, by positions. A slice at the i-th
     /// level of the grid is one at i − 1, counted from 0. To extend over the
@@ -128,38 +106,39 @@ mod tests {
 
     #[test]
     fn the_worked_drawing_of_the_sheet() {
-        let worked = [
-            [0, 0, 3, 1],
-            [0, 1, 2, 5],
-            [2, 1, 3, 4],
-            [3, 0, 5, 4],
-            [2, 4, 5, 5],
-        ];
-        assert_eq!(drawing(&[4, 1, 3, 5, 2]), rooms(&worked));
+        assert_eq!(drawing(&[4, 1, 3, 5, 2]), rooms(&worked::DRAWING));
     }
 
     #[test]
     fn every_drawing_of_up_to_7_labels_is_that_of_the_algorithm_in_001() {
-        each_permutation(7, |labels| {
-            assert_eq!(drawing(labels), bp2fp(labels), "{labels:?}");
-        });
+        for n in 1..=7 {
+            each_permutation(n, |labels| {
+                assert_eq!(drawing(labels), bp2fp(labels), "{labels:?}");
+            });
+        }
+    }
+
+    /// Holds a drawing to its outline: no room is empty, and each unit square
+    /// is in one.
+    fn fills_the_outline_once(labels: &[u8]) {
+        let n = labels.len();
+        let mut owners = vec![0; n * n];
+        for room in drawing(labels) {
+            assert!(room.left < room.right && room.bottom < room.top);
+            for x in room.left..room.right {
+                for y in room.bottom..room.top {
+                    owners[usize::from(x) * n + usize::from(y)] += 1;
+                }
+            }
+        }
+        assert!(owners.iter().all(|&count| count == 1), "{labels:?}");
     }
 
     #[test]
     fn every_drawing_of_up_to_7_labels_fills_the_outline_once() {
-        each_permutation(7, |labels| {
-            let n = labels.len();
-            let mut owners = vec![0; n * n];
-            for room in drawing(labels) {
-                assert!(room.left < room.right && room.bottom < room.top);
-                for x in room.left..room.right {
-                    for y in room.bottom..room.top {
-                        owners[usize::from(x) * n + usize::from(y)] += 1;
-                    }
-                }
-            }
-            assert!(owners.iter().all(|&count| count == 1), "{labels:?}");
-        });
+        for n in 1..=7 {
+            each_permutation(n, fills_the_outline_once);
+        }
     }
 
     #[test]

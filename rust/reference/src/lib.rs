@@ -3,7 +3,7 @@
 //! This is the separately written version that the proved library is held to.
 //! It is meant to be believed by reading: each function is one sentence of
 //! the sheet and says which. What is fast lives apart, in [`fast`], and is
-//! itself held to the definitions.
+//! itself held to the definitions. What tests are made of is in [`cases`].
 //!
 //! ```
 //! let mut record = [0; 97];
@@ -18,6 +18,7 @@
 #![forbid(unsafe_code)]
 
 mod barred;
+pub mod cases;
 mod drawing;
 pub mod fast;
 mod labels;
@@ -39,7 +40,7 @@ pub use planlist::planlist;
 pub use question::{question, Relation};
 pub use record::{record_of, triples_in};
 pub use refusal::Refusal;
-pub use rooms::{equivalent, numbering_of, rooms_in, segments, Numbering, Segment};
+pub use rooms::{equivalent, numbering_of, rooms_in, segments, Numbered, Numbering, Segment};
 pub use runs::{labels_of, Runs, TRIPLES};
 pub use touch::{Edge, Line};
 pub use triple::{triples, Triple};

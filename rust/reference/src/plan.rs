@@ -25,18 +25,9 @@ pub fn plan_of(record: &[u8]) -> Result<Plan, Refusal> {
     Ok(Plan { labels, rooms })
 }
 
-/// The output slices for rooms: one for each of the four numbers of a room.
-#[derive(Debug)]
-pub struct Corners<'a> {
-    /// The rooms' left edges, by position.
-    pub left: &'a mut [u16],
-    /// The rooms' bottom edges.
-    pub bottom: &'a mut [u16],
-    /// The rooms' right edges.
-    pub right: &'a mut [u16],
-    /// The rooms' top edges.
-    pub top: &'a mut [u16],
-}
+/// The output slices for rooms: their left, bottom, right and top edges, by
+/// position.
+pub type Corners<'a> = [&'a mut [u16]; 4];
 
 /// Record in: writes the labels and the rooms by position to the front of the
 /// five slices and gives the number of rooms, n.
@@ -60,11 +51,12 @@ impl Plan {
     /// 15 if one of the slices is too short; all five are then as they were.
     pub fn write(&self, labels: &mut [u8], corners: Corners<'_>) -> Result<usize, Refusal> {
         let n = self.labels.len();
+        let [left, bottom, right, top] = corners;
         let labels = front(labels, n)?;
-        let left = front(corners.left, n)?;
-        let bottom = front(corners.bottom, n)?;
-        let right = front(corners.right, n)?;
-        let top = front(corners.top, n)?;
+        let left = front(left, n)?;
+        let bottom = front(bottom, n)?;
+        let right = front(right, n)?;
+        let top = front(top, n)?;
         labels.copy_from_slice(&self.labels);
         for (at, room) in self.rooms.iter().enumerate() {
             left[at] = room.left;

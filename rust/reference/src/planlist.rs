@@ -32,17 +32,12 @@ pub fn planlist(input: &[u8]) -> String {
 #[cfg(test)]
 mod tests {
     use super::planlist;
+    use crate::cases::worked;
     use crate::{plan_of, Refusal};
 
     #[test]
     fn the_listing_printed_in_the_sheet() {
-        let printed = "rooms 5\n\
-                       1 4 0 0 3 1\n\
-                       2 1 0 1 2 5\n\
-                       3 3 2 1 3 4\n\
-                       4 5 3 0 5 4\n\
-                       5 2 2 4 5 5\n";
-        assert_eq!(planlist(&[0x05, 0x31, 0x70]), printed);
+        assert_eq!(planlist(&worked::LISTED), worked::LISTING);
         assert_eq!(planlist(&[0x02, 0x60]), "refused 12\n");
         assert_eq!(planlist(&[]), "refused 9\n");
     }

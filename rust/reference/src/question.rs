@@ -72,32 +72,19 @@ impl Plan {
 #[cfg(test)]
 mod tests {
     use super::{question, Relation};
+    use crate::cases::worked;
     use crate::Refusal;
-    use Relation::{Above, Below, Left, Right};
 
     #[test]
     fn every_pair_of_the_plan_drawn_in_the_sheet() {
-        // 4 1 3 5 2: position 3 is in the middle of a pinwheel of the others.
-        let answers = [
-            (1, 2, Below, true),
-            (1, 3, Below, true),
-            (1, 4, Left, true),
-            (1, 5, Below, false),
-            (2, 3, Left, true),
-            (2, 4, Left, false),
-            (2, 5, Left, true),
-            (3, 4, Left, true),
-            (3, 5, Below, true),
-            (4, 5, Below, true),
-        ];
-        for (first, second, relation, touch) in answers {
+        for ((first, second), (relation, touch)) in worked::PAIRS {
             let other_way = match relation {
-                Left => Right,
-                _ => Above,
+                Relation::Left => Relation::Right,
+                _ => Relation::Above,
             };
-            let record = [0x05, 0x31, 0x70];
-            assert_eq!(question(&record, first, second), Ok((relation, touch)));
-            assert_eq!(question(&record, second, first), Ok((other_way, touch)));
+            let asked = |first, second| question(&worked::LISTED, first, second);
+            assert_eq!(asked(first, second), Ok((relation, touch)));
+            assert_eq!(asked(second, first), Ok((other_way, touch)));
         }
     }
 

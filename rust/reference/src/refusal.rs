@@ -64,6 +64,34 @@ impl Refusal {
         Self::PositionsEqual,
     ];
 
+    /// What a room list is refused with, in the sheet's order, before 15.
+    pub const OF_ROOMS: [Self; 5] = [
+        Self::ListLength,
+        Self::EmptyRoom,
+        Self::SharedSquare,
+        Self::OpenSquare,
+        Self::FourRoomsMeet,
+    ];
+
+    /// What a label list is refused with, in the sheet's order, before 15.
+    pub const OF_LABELS: [Self; 4] = [
+        Self::ListLength,
+        Self::LabelOutside,
+        Self::LabelTwice,
+        Self::BarredPattern,
+    ];
+
+    /// What a record is refused with, in the sheet's order, before 15, or 16
+    /// and 17.
+    pub const OF_RECORDS: [Self; 6] = [
+        Self::NoKind,
+        Self::BodyShort,
+        Self::BytesAfter,
+        Self::SpareBit,
+        Self::RunMissing,
+        Self::RunsLeft,
+    ];
+
     /// The refusal's number in the table.
     #[must_use]
     pub const fn number(self) -> u8 {
@@ -111,5 +139,13 @@ mod tests {
     fn numbers_are_1_to_17_in_the_order_of_the_table() {
         let numbers: Vec<u8> = Refusal::ALL.iter().map(|r| r.number()).collect();
         assert_eq!(numbers, (1..=17).collect::<Vec<u8>>());
+    }
+
+    #[test]
+    fn the_order_is_that_of_the_sheet() {
+        let numbers = |order: &[Refusal]| order.iter().map(|r| r.number()).collect::<Vec<u8>>();
+        assert_eq!(numbers(&Refusal::OF_ROOMS), [1, 2, 3, 4, 5]);
+        assert_eq!(numbers(&Refusal::OF_LABELS), [1, 6, 7, 8]);
+        assert_eq!(numbers(&Refusal::OF_RECORDS), [9, 10, 11, 14, 12, 13]);
     }
 }

@@ -41,24 +41,22 @@ pub fn numbering_of(rooms: &[Room]) -> Result<Numbering, Refusal> {
     })
 }
 
+/// The output slices of a call: for the record, the labels and the positions.
+pub type Numbered<'a> = [&'a mut [u8]; 3];
+
 /// Rooms in: writes the record of the label list of the rooms to the front of
-/// `record`, and the label and the position of each room in list order to the
-/// fronts of `labels` and `positions`, and gives the record's length.
+/// the first slice, and the label and the position of each room in list order
+/// to the fronts of the other two, and gives the record's length.
 ///
-/// Bytes of `record` after the record, and entries of `labels` and
-/// `positions` after the first n, keep their values.
+/// Bytes after the record, and entries after the first n labels and positions,
+/// keep their values.
 ///
 /// # Errors
 ///
 /// The first cause found in the order 1, 2, 3, 4, 5, 15; all three slices are
 /// then as they were.
-pub fn rooms_in(
-    rooms: &[Room],
-    record: &mut [u8],
-    labels: &mut [u8],
-    positions: &mut [u8],
-) -> Result<usize, Refusal> {
-    numbering_of(rooms)?.write(record, labels, positions)
+pub fn rooms_in(rooms: &[Room], slices: Numbered<'_>) -> Result<usize, Refusal> {
+    numbering_of(rooms)?.write(slices)
 }
 
 impl Numbering {
@@ -68,12 +66,8 @@ impl Numbering {
     /// # Errors
     ///
     /// 15 if one of the slices is too short; all three are then as they were.
-    pub fn write(
-        &self,
-        record: &mut [u8],
-        labels: &mut [u8],
-        positions: &mut [u8],
-    ) -> Result<usize, Refusal> {
+    pub fn write(&self, slices: Numbered<'_>) -> Result<usize, Refusal> {
+        let [record, labels, positions] = slices;
         let record = front(record, self.record.len())?;
         let labels = front(labels, self.labels.len())?;
         let positions = front(positions, self.positions.len())?;

@@ -137,7 +137,8 @@ pub fn labels_of(triples: &[Triple]) -> Result<Vec<u8>, Refusal> {
 #[cfg(test)]
 mod tests {
     use super::{labels_of, Runs, TRIPLES};
-    use crate::{is_barred, triples, Refusal, Triple};
+    use crate::cases::{every_code, BAXTER_NUMBERS};
+    use crate::{is_barred, triples, Refusal};
 
     /// The table's column "p, q after", row by row as in [`TRIPLES`].
     fn after(p: usize, q: usize) -> [(usize, usize); 8] {
@@ -183,25 +184,22 @@ mod tests {
 
     #[test]
     fn every_walk_of_up_to_7_labels_gives_the_only_baxter_list_with_its_triples() {
-        let mut accepted = [0; 8];
-        for n in 1..=7 {
-            for number in 0..8usize.pow(n - 1) {
-                let walk: Vec<Triple> = (0..n - 1)
-                    .map(|place| TRIPLES[number / 8usize.pow(place) % 8])
-                    .collect();
+        for (n, number) in (1..=7).zip(BAXTER_NUMBERS) {
+            let mut accepted = 0;
+            for walk in every_code(n) {
                 match labels_of(&walk) {
                     Ok(labels) => {
                         assert!(!is_barred(&labels), "{labels:?}");
                         assert_eq!(triples(&labels), walk, "{labels:?}");
-                        accepted[n as usize] += 1;
+                        accepted += 1;
                     }
                     Err(refusal) => {
                         assert!([Refusal::RunMissing, Refusal::RunsLeft].contains(&refusal));
                     }
                 }
             }
+            // As many as there are Baxter lists, so none is left out.
+            assert_eq!(accepted, number, "n = {n}");
         }
-        // As many as there are Baxter lists, so none is left out.
-        assert_eq!(accepted, [0, 1, 2, 6, 22, 92, 422, 2074]);
     }
 }

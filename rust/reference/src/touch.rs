@@ -72,36 +72,32 @@ mod tests {
     #[test]
     fn rooms_touch_along_an_edge_and_not_at_a_corner() {
         let middle = Room::from([3, 3, 5, 6]);
-        let touching = [
+        for (corners, answer) in [
             // left, right, below and above it, over the whole edge or a part
-            [1, 3, 3, 6],
-            [1, 0, 3, 4],
-            [1, 5, 3, 9],
-            [5, 3, 9, 6],
-            [5, 1, 6, 4],
-            [3, 1, 5, 3],
-            [0, 1, 4, 3],
-            [3, 6, 5, 8],
-            [4, 6, 9, 8],
-        ];
-        let apart = [
+            ([1, 3, 3, 6], true),
+            ([1, 0, 3, 4], true),
+            ([1, 5, 3, 9], true),
+            ([5, 3, 9, 6], true),
+            ([5, 1, 6, 4], true),
+            ([3, 1, 5, 3], true),
+            ([0, 1, 4, 3], true),
+            ([3, 6, 5, 8], true),
+            ([4, 6, 9, 8], true),
             // at its corners
-            [1, 1, 3, 3],
-            [1, 6, 3, 8],
-            [5, 1, 7, 3],
-            [5, 6, 7, 8],
+            ([1, 1, 3, 3], false),
+            ([1, 6, 3, 8], false),
+            ([5, 1, 7, 3], false),
+            ([5, 6, 7, 8], false),
             // on the line of an edge, further on
-            [1, 7, 3, 8],
-            [6, 1, 8, 3],
+            ([1, 7, 3, 8], false),
+            ([6, 1, 8, 3], false),
             // one step away
-            [0, 3, 2, 6],
-            [6, 3, 7, 6],
-            [3, 0, 5, 2],
-            [3, 7, 5, 9],
-        ];
-        let touching = touching.map(|corners| (Room::from(corners), true));
-        let apart = apart.map(|corners| (Room::from(corners), false));
-        for (other, answer) in touching.into_iter().chain(apart) {
+            ([0, 3, 2, 6], false),
+            ([6, 3, 7, 6], false),
+            ([3, 0, 5, 2], false),
+            ([3, 7, 5, 9], false),
+        ] {
+            let other = Room::from(corners);
             assert_eq!(middle.touches(other), answer, "{other:?}");
             assert_eq!(other.touches(middle), answer, "{other:?}");
         }

@@ -29,6 +29,7 @@ fn triple(earlier: &[u8], v: u8) -> Triple {
 #[cfg(test)]
 mod tests {
     use super::triples;
+    use crate::cases::worked::code_of_figure_7;
 
     #[test]
     fn position_1_has_no_triple() {
@@ -38,10 +39,6 @@ mod tests {
 
     #[test]
     fn the_code_printed_with_figure_7_of_001() {
-        let bits: Vec<String> = triples(&[2, 7, 3, 1, 5, 6, 4])
-            .iter()
-            .map(|t| t.iter().map(|&bit| if bit { '1' } else { '0' }).collect())
-            .collect();
-        assert_eq!(bits.join(" "), "000 011 101 000 110 111");
+        assert_eq!(triples(&[2, 7, 3, 1, 5, 6, 4]), code_of_figure_7());
     }
 }

@@ -2,7 +2,8 @@
 //! orders" of the sheet: their labels, their positions and how they stand to
 //! each other must be those that they were drawn from.
 
-use reference::{drawing, labels_of, Plan, Relation, Room, Triple, TRIPLES};
+use reference::cases::{baxter_lists_up_to, every_code};
+use reference::{drawing, labels_of, Plan, Relation, Room};
 
 /// One way through a drawing: the relations left and right, or with the two
 /// directions traded below and above.
@@ -96,17 +97,13 @@ fn check(plan: &Plan) {
 #[test]
 fn every_plan_of_up_to_7_rooms() {
     let mut plans = 0;
-    for n in 1..=7u32 {
-        for code in 0..8usize.pow(n - 1) {
-            let triples: Vec<Triple> = (0..n - 1)
-                .map(|place| TRIPLES[code / 8usize.pow(place) % 8])
-                .collect();
-            if let Ok(labels) = labels_of(&triples) {
-                let rooms = drawing(&labels);
-                check(&Plan { labels, rooms });
-                plans += 1;
-            }
-        }
+    for labels in (1..=7)
+        .flat_map(every_code)
+        .flat_map(|code| labels_of(&code))
+    {
+        let rooms = drawing(&labels);
+        check(&Plan { labels, rooms });
+        plans += 1;
     }
-    assert_eq!(plans, 1 + 2 + 6 + 22 + 92 + 422 + 2074);
+    assert_eq!(plans, baxter_lists_up_to(7));
 }

@@ -1,69 +1,50 @@
 //! The four calls.
 
-use crate::{labels, records, rooms, BATCH};
-use compare::{Random, Tally};
+use crate::{labels, records, rooms};
+use compare::Tally;
+use reference::cases::Random;
 use reference::Refusal;
+
+/// Inputs of a batch.
+pub const BATCH: usize = 1_000;
 
 /// A call of the library.
 pub struct Call {
     name: &'static str,
     /// Compares some inputs, a number of which [`BATCH`] is a multiple.
     compare_some: fn(&mut Tally, &mut Random),
-    /// What it can be refused with, in the sheet's order.
-    refusals: &'static [Refusal],
+    /// What it can be refused with, in the sheet's order: for its input, and
+    /// then for the slices or the positions that come with it.
+    refusals: [&'static [Refusal]; 2],
 }
+
+/// What output slices can be refused with.
+const OF_SLICES: &[Refusal] = &[Refusal::SliceShort];
+
+/// What the positions of a question can be refused with.
+const OF_POSITIONS: &[Refusal] = &[Refusal::PositionOutside, Refusal::PositionsEqual];
 
 /// The calls of the library.
 pub const CALLS: [Call; 4] = [
     Call {
         name: "Labels in",
         compare_some: labels::compare_some,
-        refusals: &[
-            Refusal::ListLength,
-            Refusal::LabelOutside,
-            Refusal::LabelTwice,
-            Refusal::BarredPattern,
-            Refusal::SliceShort,
-        ],
+        refusals: [&Refusal::OF_LABELS, OF_SLICES],
     },
     Call {
         name: "Record in",
         compare_some: records::compare_some,
-        refusals: &[
-            Refusal::NoKind,
-            Refusal::BodyShort,
-            Refusal::BytesAfter,
-            Refusal::SpareBit,
-            Refusal::RunMissing,
-            Refusal::RunsLeft,
-            Refusal::SliceShort,
-        ],
+        refusals: [&Refusal::OF_RECORDS, OF_SLICES],
     },
     Call {
         name: "Question",
         compare_some: records::ask_some,
-        refusals: &[
-            Refusal::NoKind,
-            Refusal::BodyShort,
-            Refusal::BytesAfter,
-            Refusal::SpareBit,
-            Refusal::RunMissing,
-            Refusal::RunsLeft,
-            Refusal::PositionOutside,
-            Refusal::PositionsEqual,
-        ],
+        refusals: [&Refusal::OF_RECORDS, OF_POSITIONS],
     },
     Call {
         name: "Rooms in",
         compare_some: rooms::compare_some,
-        refusals: &[
-            Refusal::ListLength,
-            Refusal::EmptyRoom,
-            Refusal::SharedSquare,
-            Refusal::OpenSquare,
-            Refusal::FourRoomsMeet,
-            Refusal::SliceShort,
-        ],
+        refusals: [&Refusal::OF_ROOMS, OF_SLICES],
     },
 ];
 
@@ -97,7 +78,7 @@ impl Call {
         assert!(5 * tally.accepted() >= cases, "{name}: too few accepted");
         for refusal in Refusal::ALL {
             let (count, number) = (tally.refused(refusal), refusal.number());
-            if self.refusals.contains(&refusal) {
+            if self.refusals.concat().contains(&refusal) {
                 assert!(1_000 * count >= cases, "{name}: too few with {number}");
             } else {
                 assert_eq!(count, 0, "{name}: refused with {number}");

@@ -2,8 +2,9 @@
 
 use crate::size::{by_definitions, capacities, some_walk};
 use compare::label_damage::{put_a_label_outside, repeat_a_label, two_places};
-use compare::lists::record_length;
-use compare::{Random, Tally};
+use compare::records::record_length;
+use compare::Tally;
+use reference::cases::Random;
 
 /// Lists with damage for each Baxter list.
 const DAMAGED: usize = 3;

@@ -16,14 +16,12 @@ mod records;
 mod rooms;
 mod size;
 
-use call::{Call, CALLS};
-use compare::{grouped, Random, Tally};
+use call::{Call, BATCH, CALLS};
+use compare::{grouped, Tally};
+use reference::cases::Random;
 use std::process::ExitCode;
 use std::sync::atomic::{AtomicUsize, Ordering};
 use std::{env, panic, process, thread};
-
-/// Inputs of a batch.
-const BATCH: usize = 1_000;
 
 /// Batches, unless the argument says otherwise.
 const BATCHES: usize = 10_000;

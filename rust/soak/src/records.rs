@@ -2,8 +2,9 @@
 
 use crate::size::{capacities, some_walk};
 use compare::damage::Damage;
-use compare::lists::record_length;
-use compare::{Given, Random, Tally};
+use compare::records::record_length;
+use compare::{GivenRecord, Tally};
+use reference::cases::Random;
 
 /// Pairs of positions for each record.
 const PAIRS: usize = 5;
@@ -11,7 +12,7 @@ const PAIRS: usize = 5;
 /// Compares a record, and the same record with damage.
 pub fn compare_some(tally: &mut Tally, random: &mut Random) {
     for given in some_records(random) {
-        let needed = [usize::from(kind(&given.record)); 5];
+        let needed = [usize::from(kind(&given.input)); 5];
         let _ = tally.record_in(&given, capacities(needed, random));
     }
 }
@@ -37,8 +38,8 @@ fn kind(record: &[u8]) -> u8 {
 
 /// A position: mostly one of the record's rooms, often the first or the last,
 /// but any number can come up.
-fn some_position(given: &Given, random: &mut Random) -> u8 {
-    let n = kind(&given.record);
+fn some_position(given: &GivenRecord, random: &mut Random) -> u8 {
+    let n = kind(&given.input);
     match random.below(16) {
         0 => 0,
         1 => 1,
@@ -50,10 +51,10 @@ fn some_position(given: &Given, random: &mut Random) -> u8 {
 }
 
 /// A record that is accepted, and one with damage.
-fn some_records(random: &mut Random) -> [Given; 2] {
+fn some_records(random: &mut Random) -> [GivenRecord; 2] {
     let record = some_walk(random).record();
     let damaged = damaged(&record, random);
-    [record, damaged].map(Given::new)
+    [record, damaged].map(GivenRecord::new)
 }
 
 /// A record with damage, or sometimes random bytes.

@@ -2,8 +2,9 @@
 
 use crate::size::{by_definitions, capacities, some_count, some_walk};
 use compare::floorplan::some_box;
-use compare::room_damage::{change_a_corner, is_suited, RoomDamage};
-use compare::{Floorplan, GivenRooms, Random, Tally};
+use compare::room_damage::{are_suited, change_a_corner, RoomDamage};
+use compare::{Floorplan, GivenRooms, Tally};
+use reference::cases::Random;
 use reference::{Refusal, Room};
 
 /// Lists with damage for each floorplan.
@@ -74,9 +75,7 @@ fn damaged(plan: &Floorplan, random: &mut Random) -> Vec<Room> {
         }
         10 | 11 => return two_columns(random),
         12 => return any_rooms(random),
-        _ if rooms.iter().any(|room| is_suited(room, &rooms)) => {
-            return some_damage(random).rooms(plan, random);
-        }
+        _ if are_suited(&rooms) => return some_damage(random).rooms(plan, random),
         _ => change_a_corner(&mut rooms, random),
     }
     rooms
@@ -126,14 +125,6 @@ fn two_columns(random: &mut Random) -> Vec<Room> {
 fn any_rooms(random: &mut Random) -> Vec<Room> {
     let end = random.pick(&[3, 5, 65_536]);
     (0..random.below(7))
-        .map(|_| {
-            let [left, bottom, right, top] = [(); 4].map(|()| random.below(end) as u16);
-            Room {
-                left,
-                bottom,
-                right,
-                top,
-            }
-        })
+        .map(|_| Room::from([(); 4].map(|()| random.below(end) as u16)))
         .collect()
 }

@@ -1,16 +1,13 @@
 //! How large inputs are, how long slices, and which inputs are held to the
 //! definitions.
 
-use compare::walk::{biased_list, random_list, Walked};
-use compare::Random;
+use reference::cases::walk::{list_in_turn, Walked};
+use reference::cases::Random;
 
 /// A random Baxter list. Most of them are short, and some as long as can be.
 pub fn some_walk(random: &mut Random) -> Walked {
     let n = some_count(random);
-    match random.below(2) {
-        0 => random_list(n, random),
-        _ => biased_list(n, random),
-    }
+    list_in_turn(n, random.below(2), random)
 }
 
 /// A count of rooms.

@@ -2,9 +2,10 @@
 //! order 1, 6, 7, 8, 15 where there are several.
 
 use compare::label_damage::{put_a_label_outside, repeat_a_label, two_places};
-use compare::lists::record_length;
-use compare::walk::biased_list;
-use compare::{Random, Tally};
+use compare::records::record_length;
+use compare::Tally;
+use reference::cases::walk::biased_list;
+use reference::cases::Random;
 use reference::{is_barred, Refusal};
 
 /// Record slices that are empty, just too short, just right and too long.
@@ -14,7 +15,7 @@ fn capacities(n: usize) -> [usize; 4] {
 }
 
 /// A Baxter list with room for damage.
-fn sound_list(random: &mut Random) -> Vec<u8> {
+fn sound(random: &mut Random) -> Vec<u8> {
     let n = match random.below(3) {
         0 => random.between(6, 24),
         1 => random.between(6, 255),
@@ -23,9 +24,9 @@ fn sound_list(random: &mut Random) -> Vec<u8> {
     biased_list(n, random).labels
 }
 
-/// As [`sound_list`], but with labels changed about until some pattern is barred.
-fn barred_list(random: &mut Random) -> Vec<u8> {
-    let mut labels = sound_list(random);
+/// As [`sound`], but with labels changed about until some pattern is barred.
+fn barred(random: &mut Random) -> Vec<u8> {
+    let mut labels = sound(random);
     while !is_barred(&labels) {
         let (one, other) = (random.below(labels.len()), random.below(labels.len()));
         labels.swap(one, other);
@@ -33,83 +34,57 @@ fn barred_list(random: &mut Random) -> Vec<u8> {
     labels
 }
 
-/// Compares `lists` damaged lists, each with slices of four lengths, which
-/// must all be refused with `refusal`.
-fn compare_damaged(
-    name: &'static str,
-    seed: u64,
-    lists: usize,
-    refusal: Refusal,
-    damaged_list: impl Fn(&mut Random) -> Vec<u8>,
-) {
-    let mut tally = Tally::new(name);
-    let mut random = Random::from_seed(seed);
-    for _ in 0..lists {
-        let labels = damaged_list(&mut random);
-        for capacity in capacities(labels.len()) {
-            tally.expect_refusal(&labels, capacity, refusal);
-        }
+/// The list with some labels put twice.
+fn repeated(mut labels: Vec<u8>, times: usize, random: &mut Random) -> Vec<u8> {
+    for _ in 0..times {
+        repeat_a_label(&mut labels, random);
     }
-    tally.finish(4 * lists);
+    labels
 }
 
-#[test]
-fn a_label_outside_is_6() {
-    let refusal = Refusal::LabelOutside;
-    compare_damaged("a label outside", 11, 3_000, refusal, |random| {
-        let mut labels = sound_list(random);
-        put_a_label_outside(&mut labels, random);
-        labels
-    });
+/// The list with a label outside 1 to n.
+fn outside(mut labels: Vec<u8>, random: &mut Random) -> Vec<u8> {
+    put_a_label_outside(&mut labels, random);
+    labels
 }
 
-#[test]
-fn a_repeated_label_is_7() {
-    let refusal = Refusal::LabelTwice;
-    compare_damaged("a repeated label", 12, 3_000, refusal, |random| {
-        let mut labels = sound_list(random);
-        repeat_a_label(&mut labels, random);
-        labels
-    });
-}
+/// A name, a seed, the refusal and the damaged lists that have it.
+type Damaged = (&'static str, u64, Refusal, fn(&mut Random) -> Vec<u8>);
+
+/// Damage anywhere, alone and beside damage that is named later.
+const DAMAGED: [Damaged; 6] = [
+    ("a label outside", 11, Refusal::LabelOutside, |random| {
+        outside(sound(random), random)
+    }),
+    ("a repeated label", 12, Refusal::LabelTwice, |random| {
+        repeated(sound(random), 1, random)
+    }),
+    ("a barred pattern", 13, Refusal::BarredPattern, barred),
+    ("7 before 8", 14, Refusal::LabelTwice, |random| {
+        repeated(barred(random), 1, random)
+    }),
+    ("6 before 8", 15, Refusal::LabelOutside, |random| {
+        outside(barred(random), random)
+    }),
+    ("6 before 7 and 8", 16, Refusal::LabelOutside, |random| {
+        let labels = barred(random);
+        let times = random.between(1, 4);
+        outside(repeated(labels, times, random), random)
+    }),
+];
 
 #[test]
-fn a_barred_pattern_is_8() {
-    let refusal = Refusal::BarredPattern;
-    compare_damaged("a barred pattern", 13, 3_000, refusal, barred_list);
-}
-
-#[test]
-fn a_repeated_label_anywhere_beats_a_barred_pattern_anywhere() {
-    let refusal = Refusal::LabelTwice;
-    compare_damaged("7 before 8", 14, 3_000, refusal, |random| {
-        let mut labels = barred_list(random);
-        repeat_a_label(&mut labels, random);
-        labels
-    });
-}
-
-#[test]
-fn a_label_outside_anywhere_beats_a_barred_pattern_anywhere() {
-    let refusal = Refusal::LabelOutside;
-    compare_damaged("6 before 8", 15, 3_000, refusal, |random| {
-        let mut labels = barred_list(random);
-        put_a_label_outside(&mut labels, random);
-        labels
-    });
-}
-
-#[test]
-fn a_label_outside_anywhere_beats_all_other_damage() {
-    let refusal = Refusal::LabelOutside;
-    compare_damaged("6 before 7 and 8", 16, 3_000, refusal, |random| {
-        let mut labels = barred_list(random);
-        for _ in 0..random.between(1, 4) {
-            repeat_a_label(&mut labels, random);
-        }
-        put_a_label_outside(&mut labels, random);
-        labels
-    });
+fn a_label_outside_is_6_else_a_repeated_one_7_else_a_barred_pattern_8() {
+    const LISTS: usize = 3_000;
+    for (name, seed, refusal, damaged) in DAMAGED {
+        let tally = Tally::of_rounds(name, seed, 0..LISTS, |tally, random, _| {
+            let labels = damaged(random);
+            for capacity in capacities(labels.len()) {
+                tally.expect_refusal(&labels, capacity, refusal);
+            }
+        });
+        tally.finish(4 * LISTS);
+    }
 }
 
 #[test]
@@ -141,35 +116,38 @@ fn damage_at_the_last_place_beats_damage_at_the_first() {
     tally.finish(251 * 6);
 }
 
+/// Two places of a Baxter list: in one round neighbours by position, in the
+/// next one neighbours by label, in the third one any.
+fn places_to_trade(labels: &[u8], round: usize, random: &mut Random) -> (usize, usize) {
+    match round % 3 {
+        0 => {
+            let place = random.below(labels.len() - 1);
+            (place, place + 1)
+        }
+        1 => {
+            let label = random.between(1, labels.len() - 1);
+            let place = |wanted| labels.iter().position(|&l| usize::from(l) == wanted);
+            let places = (place(label), place(label + 1));
+            (places.0.unwrap_or(0), places.1.unwrap_or(0))
+        }
+        _ => two_places(labels, random),
+    }
+}
+
 #[test]
 fn two_labels_that_trade_places() {
     const LISTS: usize = 6_000;
-    let mut tally = Tally::new("two labels that trade places");
-    let mut random = Random::from_seed(17);
-    for round in 0..LISTS {
-        let mut labels = sound_list(&mut random);
-        let (one, other) = match round % 3 {
-            // two neighbours by position
-            0 => {
-                let place = random.below(labels.len() - 1);
-                (place, place + 1)
-            }
-            // two neighbours by label
-            1 => {
-                let label = random.between(1, labels.len() - 1);
-                let place = |wanted| labels.iter().position(|&l| usize::from(l) == wanted);
-                let places = (place(label), place(label + 1));
-                (places.0.unwrap_or(0), places.1.unwrap_or(0))
-            }
-            _ => two_places(&labels, &mut random),
-        };
+    let name = "two labels that trade places";
+    let tally = Tally::of_rounds(name, 17, 0..LISTS, |tally, random, round| {
+        let mut labels = sound(random);
+        let (one, other) = places_to_trade(&labels, round, random);
         labels.swap(one, other);
         for capacity in capacities(labels.len()) {
             let _ = tally.labels_in(&labels, capacity);
         }
-    }
+    });
     // Both outcomes must come up, or the trade would try nothing.
     assert!(tally.accepted() > LISTS / 10);
-    assert!(tally.refused(Refusal::BarredPattern) > LISTS);
+    tally.expect_often(LISTS, &[Refusal::BarredPattern]);
     tally.finish(4 * LISTS);
 }

@@ -1,13 +1,10 @@
 //! Every list of the labels 1 to n, each once, for small n.
 
-use compare::lists::{each_permutation, record_length};
+use compare::records::record_length;
 use compare::{report, Tally};
+use reference::cases::{baxter_lists_up_to, each_permutation, BAXTER_NUMBERS};
 use reference::Refusal;
 use std::collections::HashSet;
-
-/// The Baxter numbers as 000 and 001 print them for n = 1 to 7; the one for
-/// n = 8 comes from their formula.
-const BAXTER_NUMBERS: [usize; 8] = [1, 2, 6, 22, 92, 422, 2074, 10754];
 
 /// The number of orders of n labels, n = 1 to 8.
 const ORDERS: [usize; 8] = [1, 2, 6, 24, 120, 720, 5040, 40320];
@@ -41,11 +38,13 @@ fn every_permutation_of_up_to_8_labels() {
             }
         });
     }
-    let baxter: usize = BAXTER_NUMBERS.iter().sum();
+    let baxter = baxter_lists_up_to(8);
     let all: usize = ORDERS.iter().sum();
     assert_eq!(tally.accepted(), 2 * baxter);
-    assert_eq!(tally.refused(Refusal::SliceShort), 2 * baxter);
-    assert_eq!(tally.refused(Refusal::BarredPattern), 4 * (all - baxter));
+    tally.expect_refused(
+        [Refusal::SliceShort, Refusal::BarredPattern],
+        [2 * baxter, 4 * (all - baxter)],
+    );
     tally.finish(4 * all);
 }
 
@@ -62,5 +61,5 @@ fn different_permutations_of_up_to_8_labels_have_different_records() {
         });
     }
     report(format_args!("{} records, all different", records.len()));
-    assert_eq!(records.len(), BAXTER_NUMBERS.iter().sum::<usize>());
+    assert_eq!(records.len(), baxter_lists_up_to(8));
 }

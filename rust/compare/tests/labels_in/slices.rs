@@ -2,34 +2,25 @@
 //! the slices changes, and nothing in them on a refusal, is part of every
 //! comparison.
 
-use compare::lists::record_length;
-use compare::walk::random_list;
-use compare::{Random, Tally};
+use compare::records::record_length;
+use compare::Tally;
+use reference::cases::walk::random_list;
 use reference::Refusal;
 
 #[test]
 fn record_slices_of_every_length_from_0_to_100() {
-    let mut tally = Tally::new("record slices of 0 to 100 bytes");
-    let mut random = Random::from_seed(21);
-    for n in 1..=255 {
-        let labels = random_list(n, &mut random).labels;
-        let needed = record_length(n);
+    let name = "record slices of 0 to 100 bytes";
+    let tally = Tally::of_rounds(name, 21, 1..=255, |tally, random, n| {
+        let labels = random_list(n, random).labels;
         for capacity in 0..=100 {
-            let answer = tally.labels_in(&labels, capacity);
-            let expected = if capacity < needed {
-                Err(Refusal::SliceShort)
-            } else {
-                Ok(needed)
-            };
-            assert_eq!(answer, expected, "{labels:?} into {capacity} bytes");
+            tally.expect_length(&labels, capacity);
         }
-    }
+    });
     tally.finish(255 * 101);
 }
 
 #[test]
 fn refused_lists_leave_slices_of_every_length_from_0_to_100() {
-    let mut tally = Tally::new("refused, with slices of 0 to 100 bytes");
     // 255 rising labels with other entries from some place on.
     let changed = |place: usize, entries: &[u8]| {
         let mut labels: Vec<u8> = (1..=255).collect();
@@ -49,13 +40,10 @@ fn refused_lists_leave_slices_of_every_length_from_0_to_100() {
         (changed(0, &[2, 4, 1, 3]), Refusal::BarredPattern),
         (changed(251, &[254, 252, 255, 253]), Refusal::BarredPattern),
     ];
-    let kinds = refused.len();
-    for (labels, refusal) in refused {
-        for capacity in 0..=100 {
-            tally.expect_refusal(&labels, capacity, refusal);
-        }
-    }
-    tally.finish(kinds * 101);
+    let name = "refused, with slices of 0 to 100 bytes";
+    Tally::refused_at_every_length(name, &refused, 100, |tally, labels, capacity| {
+        tally.labels_in(labels, capacity)
+    });
 }
 
 #[test]

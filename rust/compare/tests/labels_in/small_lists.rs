@@ -1,7 +1,7 @@
 //! Every list over a small alphabet: most are refused, for every cause.
 
-use compare::lists::every_list;
 use compare::Tally;
+use reference::cases::every_list;
 use reference::Refusal;
 
 /// Compares every list of up to `longest` entries from 0 to `greatest`, with
@@ -46,7 +46,9 @@ fn every_list_of_6_entries_from_0_to_7() {
         let _ = tally.labels_in(&labels, 3);
     }
     assert_eq!(tally.accepted(), 422, "the Baxter number for 6");
-    assert_eq!(tally.refused(Refusal::BarredPattern), 720 - 422);
-    assert_eq!(tally.refused(Refusal::LabelTwice), 6usize.pow(6) - 720);
+    tally.expect_refused(
+        [Refusal::LabelTwice, Refusal::BarredPattern],
+        [6usize.pow(6) - 720, 720 - 422],
+    );
     tally.finish(8usize.pow(6));
 }

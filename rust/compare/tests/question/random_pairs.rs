@@ -1,7 +1,8 @@
 //! Pairs of positions in plans of up to 255 rooms.
 
-use compare::walk::{biased_list, random_list};
-use compare::{report, Given, Random, Tally};
+use compare::{repeat, report, GivenRecord, Tally};
+use reference::cases::walk::{biased_list, list_in_turn};
+use reference::cases::Random;
 use reference::{Relation, Room};
 
 /// Whether a line has an edge of each room, from opposite sides.
@@ -25,31 +26,30 @@ fn ends_before(a: Room, b: Room) -> bool {
     a.right <= b.left
 }
 
+/// How far one of `n` positions is from another, round the end if need be: in
+/// some rounds not far, since near positions touch more often than others.
+fn some_distance(n: usize, round: usize, random: &mut Random) -> usize {
+    match round % 3 {
+        0 => random.between(1, n - 1),
+        1 => random.between(1, (n - 1).min(4)),
+        _ => n - random.between(1, (n - 1).min(4)),
+    }
+}
+
 #[test]
 fn pairs_of_random_plans() {
     const PLANS: usize = 6_000;
     const PAIRS: usize = 24;
-    let mut tally = Tally::new("pairs of random plans");
-    let mut random = Random::from_seed(101);
+    let name = "pairs of random plans";
     let mut relations = [0; 4];
     let (mut touching, mut by_a_part, mut only_on_a_line, mut seems_left) = (0, 0, 0, 0);
-    for round in 0..PLANS {
+    let tally = Tally::of_rounds(name, 101, 0..PLANS, |tally, random, round| {
         let n = random.between(2, 255);
-        let walked = match round % 2 {
-            0 => random_list(n, &mut random),
-            _ => biased_list(n, &mut random),
-        };
-        let given = Given::new(walked.record());
-        let rooms = &given.plan.as_ref().expect("walks are accepted").rooms;
+        let given = GivenRecord::new(list_in_turn(n, round, random).record());
+        let rooms = &given.answer.as_ref().expect("walks are accepted").rooms;
         for pair in 0..PAIRS {
             let first = random.between(1, n);
-            // Near positions touch more often than others.
-            let further = match pair % 3 {
-                0 => random.between(1, n - 1),
-                1 => random.between(1, (n - 1).min(4)),
-                _ => n - random.between(1, (n - 1).min(4)),
-            };
-            let second = (first - 1 + further) % n + 1;
+            let second = (first - 1 + some_distance(n, pair, random)) % n + 1;
             let [a, b] = [first, second].map(|position| rooms[position - 1]);
             let [first, second] = [first, second].map(|p| u8::try_from(p).expect("a byte"));
             let answer = tally.question(&given, first, second);
@@ -61,7 +61,7 @@ fn pairs_of_random_plans() {
             only_on_a_line += usize::from(!touch && share_a_line(a, b));
             seems_left += usize::from(ends_before(a, b) && relation != Relation::Left);
         }
-    }
+    });
     // Each kind of pair must come up, or it would not have been tried.
     assert!(
         relations.iter().all(|&count| count > PLANS),
@@ -76,11 +76,10 @@ fn pairs_of_random_plans() {
 #[test]
 fn the_two_ways_to_ask_agree() {
     const PLANS: usize = 400;
-    let mut random = Random::from_seed(102);
     let mut pairs = 0;
-    for _ in 0..PLANS {
+    repeat(102, 0..PLANS, |random, _| {
         let n = random.between(2, 60);
-        let record = biased_list(n, &mut random).record();
+        let record = biased_list(n, random).record();
         for first in 1..=n as u8 {
             for second in 1..first {
                 let there = nenturxo::question(&record, first, second);
@@ -90,7 +89,7 @@ fn the_two_ways_to_ask_agree() {
                 pairs += 1;
             }
         }
-    }
+    });
     report(format_args!("{pairs} pairs asked for both ways"));
     assert!(pairs > 100_000);
 }

@@ -2,38 +2,27 @@
 //! 9, 10, 11, 14, 12, 13 where there are several.
 
 use compare::damage::Damage;
-use compare::walk::biased_list;
-use compare::{Given, Random, Tally};
+use compare::{each_times, GivenRecord, Tally};
+use reference::cases::walk::biased_list;
 use reference::{plan_of, record_of, Refusal, TRIPLES};
 
 #[test]
 fn every_damage_alone_and_with_every_other() {
     const RECORDS: usize = 500;
-    let mut tally = Tally::new("damaged records");
-    let mut random = Random::from_seed(81);
-    for damage in Damage::all() {
-        for _ in 0..RECORDS {
-            let record = damage.record(&mut random);
-            if let Some(refusal) = damage.refusal() {
-                tally.expect_refused_record(&record, refusal);
-            } else {
-                let plan = plan_of(&record).expect("a record without damage is accepted");
-                tally.expect_labels(&record, &plan.labels);
-            }
+    let damages = each_times(Damage::all(), RECORDS);
+    let tally = Tally::of_rounds("damaged records", 81, damages, |tally, random, damage| {
+        let record = damage.record(random);
+        if let Some(refusal) = damage.refusal() {
+            tally.expect_refused_record(&record, refusal);
+        } else {
+            let plan = plan_of(&record).expect("a record without damage is accepted");
+            tally.expect_labels(&record, &plan.labels);
         }
-    }
+    });
     // Of the 48 combinations half have no kind; of the others a third lacks
     // bytes, a third has too many; and so on.
-    for (refusal, combinations) in [
-        (Refusal::NoKind, 24),
-        (Refusal::BodyShort, 8),
-        (Refusal::BytesAfter, 8),
-        (Refusal::SpareBit, 4),
-        (Refusal::RunMissing, 2),
-        (Refusal::RunsLeft, 1),
-    ] {
-        assert_eq!(tally.refused(refusal), combinations * 3 * RECORDS);
-    }
+    let counts = [24, 8, 8, 4, 2, 1].map(|combinations| combinations * 3 * RECORDS);
+    tally.expect_refused(Refusal::OF_RECORDS, counts);
     assert_eq!(tally.accepted(), 2 * RECORDS);
     tally.finish(Damage::COUNT * 3 * RECORDS);
 }
@@ -83,18 +72,16 @@ fn a_missing_run_anywhere_beats_runs_left_at_the_end() {
 
 #[test]
 fn a_kind_that_is_not_the_bodys() {
-    let mut tally = Tally::new("records with another kind");
-    let mut random = Random::from_seed(82);
-    for _ in 0..40 {
+    let name = "records with another kind";
+    let tally = Tally::of_rounds(name, 82, 0..40, |tally, random, _| {
         let n = random.between(1, 255);
-        let record = biased_list(n, &mut random).record();
+        let mut record = biased_list(n, random).record();
         for kind in 0..=255 {
-            let mut record = record.clone();
             record[0] = kind;
-            let _ = tally.record_in(&Given::new(record), [255; 5]);
+            let _ = tally.record_in(&GivenRecord::new(&record[..]), [255; 5]);
         }
-    }
-    assert_eq!(tally.refused(Refusal::NoKind), 40);
+    });
+    tally.expect_refused([Refusal::NoKind], [40]);
     assert!(tally.accepted() >= 40);
     tally.finish(40 * 256);
 }

@@ -1,10 +1,10 @@
 //! There and back through the library alone, without the definitions.
 
-use compare::lists::each_permutation;
-use compare::record_in::library_plan;
-use compare::walk::{biased_list, random_list};
-use compare::{report, Random};
+use compare::record_slices::library_plan;
+use compare::{repeat, report};
 use nenturxo::{labels_in, Refusal, RECORD_CAPACITY};
+use reference::cases::walk::list_in_turn;
+use reference::cases::{baxter_lists_up_to, each_permutation};
 
 /// The record of a label list.
 fn record_of(labels: &[u8]) -> Result<Vec<u8>, Refusal> {
@@ -30,7 +30,7 @@ fn every_accepted_list_of_up_to_8_labels_comes_back() {
         });
     }
     report(format_args!("{lists} lists of up to 8 labels came back"));
-    assert_eq!(lists, 1 + 2 + 6 + 22 + 92 + 422 + 2074 + 10754);
+    assert_eq!(lists, baxter_lists_up_to(8));
 }
 
 #[test]
@@ -52,27 +52,17 @@ fn every_accepted_code_of_up_to_7_rooms_comes_back() {
         }
     }
     report(format_args!("{records} records of up to 7 rooms came back"));
-    assert_eq!(records, 1 + 2 + 6 + 22 + 92 + 422 + 2074);
+    assert_eq!(records, baxter_lists_up_to(7));
 }
 
 #[test]
 fn random_lists_and_their_records_come_back() {
     const LISTS: usize = 20_000;
-    let mut random = Random::from_seed(61);
-    let mut came_back = 0;
-    for round in 0..LISTS {
+    repeat(61, 0..LISTS, |random, round| {
         let n = random.between(1, 255);
-        let walked = match round % 2 {
-            0 => random_list(n, &mut random),
-            _ => biased_list(n, &mut random),
-        };
-        let record = record_of(&walked.labels);
-        assert_eq!(record, Ok(walked.record()));
+        let walked = list_in_turn(n, round, random);
+        assert_eq!(record_of(&walked.labels), Ok(walked.record()));
         assert_eq!(labels_of(&walked.record()), Ok(walked.labels));
-        came_back += 1;
-    }
-    report(format_args!(
-        "{came_back} random lists and records came back"
-    ));
-    assert_eq!(came_back, LISTS);
+    });
+    report(format_args!("{LISTS} random lists and records came back"));
 }

@@ -1,10 +1,8 @@
 //! Every record that is short enough.
 
-use compare::{Given, Tally};
+use compare::{GivenRecord, Tally};
+use reference::cases::{baxter_lists_up_to, BAXTER_NUMBERS};
 use reference::Refusal;
-
-/// The Baxter numbers: how many records of n rooms are accepted, n = 1 to 7.
-const BAXTER_NUMBERS: [usize; 7] = [1, 2, 6, 22, 92, 422, 2074];
 
 #[test]
 fn every_string_of_up_to_2_bytes() {
@@ -15,14 +13,15 @@ fn every_string_of_up_to_2_bytes() {
         strings.extend((0..=255).map(|second| vec![first, second]));
     }
     for string in strings {
-        let given = Given::new(string);
+        let given = GivenRecord::new(string);
         for capacities in [[0; 5], [3; 5]] {
             let _ = tally.record_in(&given, capacities);
         }
     }
     // Those of 1, 2 and 3 rooms.
-    assert_eq!(tally.accepted(), 1 + 2 + 6);
-    assert_eq!(tally.refused(Refusal::SliceShort), 1 + 2 + 6);
+    let baxter = baxter_lists_up_to(3);
+    assert_eq!(tally.accepted(), baxter);
+    assert_eq!(tally.refused(Refusal::SliceShort), baxter);
     tally.finish(2 * (1 + 256 + 256 * 256));
 }
 
@@ -55,12 +54,12 @@ fn every_body_of_up_to_6_rooms() {
         for body in 0..1u32 << (8 * length) {
             let mut record = vec![n];
             record.extend(&body.to_be_bytes()[4 - length..]);
-            let given = Given::new(record);
+            let given = GivenRecord::new(record);
             let _ = tally.record_in(&given, [rooms + 1; 5]);
             let _ = tally.record_in(&given, [rooms, rooms, rooms, rooms, rooms - 1]);
         }
     }
-    let baxter: usize = BAXTER_NUMBERS[..6].iter().sum();
+    let baxter = baxter_lists_up_to(6);
     assert_eq!(tally.accepted(), baxter);
     assert_eq!(tally.refused(Refusal::SliceShort), baxter);
     tally.finish(2 * (1 + 2 * 256 + 3 * 65536));
@@ -72,7 +71,7 @@ fn every_code_of_7_rooms() {
     for code in 0..1u32 << 18 {
         // The 18 bits stand at the top of three bytes.
         let [_, first, second, third] = (code << 6).to_be_bytes();
-        let _ = tally.record_in(&Given::new([7, first, second, third]), [7; 5]);
+        let _ = tally.record_in(&GivenRecord::new([7, first, second, third]), [7; 5]);
     }
     assert_eq!(tally.accepted(), BAXTER_NUMBERS[6]);
     assert_eq!(tally.refused(Refusal::SpareBit), 0);

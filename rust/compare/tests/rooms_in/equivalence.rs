@@ -1,11 +1,11 @@
 //! Two plans get the same record exactly where they are equivalent, which is
 //! decided by trying all ways to pair their rooms off.
 
-use compare::lists::each_permutation;
-use compare::rooms_in::{library_numbering, rooms};
-use compare::walk::random_list;
-use compare::{report, Floorplan, Random};
-use reference::{equivalent, is_barred, Room};
+use compare::rooms_in::library_numbering;
+use compare::{repeat, report, Floorplan};
+use reference::cases::walk::random_list;
+use reference::cases::{baxter_lists, rooms, worked, Random};
+use reference::{equivalent, Room};
 
 /// The rooms of a drawing, moved and in another order.
 fn moved(labels: &[u8], random: &mut Random) -> Vec<Room> {
@@ -29,14 +29,7 @@ fn compare(a: &[Room], b: &[Room]) -> bool {
 fn all_pairs_of_plans_of_up_to_4_rooms() {
     const ROUNDS: usize = 4;
     let mut random = Random::from_seed(141);
-    let mut lists = Vec::new();
-    for n in 1..=4 {
-        each_permutation(n, |labels| {
-            if !is_barred(labels) {
-                lists.push(labels.to_vec());
-            }
-        });
-    }
+    let lists: Vec<Vec<u8>> = (1..=4).flat_map(baxter_lists).collect();
     let (mut pairs, mut same) = (0, 0);
     for a in &lists {
         for b in &lists {
@@ -55,16 +48,15 @@ fn all_pairs_of_plans_of_up_to_4_rooms() {
 #[test]
 fn pairs_of_plans_of_5_to_7_rooms() {
     const PAIRS: usize = 500;
-    let mut random = Random::from_seed(142);
     let mut same = 0;
-    for round in 0..PAIRS {
+    repeat(142, 0..PAIRS, |random, round| {
         let n = [5, 5, 5, 6, 6, 7][round % 6];
-        let labels = random_list(n, &mut random).labels;
-        let other = random_list(n, &mut random).labels;
-        let plan = moved(&labels, &mut random);
-        assert!(compare(&plan, &moved(&labels, &mut random)), "{labels:?}");
-        same += usize::from(compare(&plan, &moved(&other, &mut random)));
-    }
+        let labels = random_list(n, random).labels;
+        let other = random_list(n, random).labels;
+        let plan = moved(&labels, random);
+        assert!(compare(&plan, &moved(&labels, random)), "{labels:?}");
+        same += usize::from(compare(&plan, &moved(&other, random)));
+    });
     report(format_args!(
         "{} pairs of 5 to 7 rooms, {} same",
         2 * PAIRS,
@@ -86,21 +78,10 @@ fn pairs_that_look_alike() {
     let high = rooms(&[[0, 0, 1, 2], [0, 2, 1, 4], [1, 0, 2, 3], [1, 3, 2, 4]]);
     assert!(compare(&low, &high));
     assert!(!compare(&left, &low));
-    // The two pinwheels.
-    let one = rooms(&[
-        [0, 0, 2, 1],
-        [2, 0, 3, 2],
-        [1, 2, 3, 3],
-        [0, 1, 1, 3],
-        [1, 1, 2, 2],
-    ]);
-    let other = rooms(&[
-        [1, 0, 3, 1],
-        [0, 0, 1, 2],
-        [0, 2, 2, 3],
-        [2, 1, 3, 3],
-        [1, 1, 2, 2],
-    ]);
+    // The two pinwheels: the one that the sheet draws, and the same in a mirror.
+    let one = rooms(&worked::DRAWING);
+    let mirrored = |[left, bottom, right, top]: [u16; 4]| [5 - right, bottom, 5 - left, top];
+    let other = rooms(&worked::DRAWING.map(mirrored));
     assert!(!compare(&one, &other));
     assert!(compare(&one, &one));
 }

@@ -1,9 +1,9 @@
 //! There and back through the library alone, without the definitions.
 
-use compare::record_in::library_plan;
+use compare::record_slices::library_plan;
 use compare::rooms_in::library_numbering;
-use compare::walk::{biased_list, random_list};
-use compare::{report, Floorplan, Random};
+use compare::{repeat, report, Floorplan};
+use reference::cases::walk::list_in_turn;
 use reference::Room;
 
 /// Takes rooms to their record, that to its drawing, and the drawing to its
@@ -29,42 +29,25 @@ fn there_and_back(rooms: &[Room]) {
 #[test]
 fn drawings_of_random_lists() {
     const PLANS: usize = 6000;
-    let mut random = Random::from_seed(151);
-    let mut came_back = 0;
-    for round in 0..PLANS {
+    repeat(151, 0..PLANS, |random, round| {
         let n = random.between(1, 255);
-        let walked = match round % 2 {
-            0 => random_list(n, &mut random),
-            _ => biased_list(n, &mut random),
-        };
-        let mut plan = Floorplan::drawn(&walked.labels);
-        plan.stretch(&mut random);
-        plan.shuffle(&mut random);
+        let mut plan = Floorplan::drawn(&list_in_turn(n, round, random).labels);
+        plan.stretch(random);
+        plan.shuffle(random);
         there_and_back(&plan.rooms());
-        came_back += 1;
-    }
-    report(format_args!("{came_back} moved drawings came back"));
-    assert_eq!(came_back, PLANS);
+    });
+    report(format_args!("{PLANS} moved drawings came back"));
 }
 
 #[test]
 fn nested_plans() {
     const PLANS: usize = 1000;
-    let mut random = Random::from_seed(152);
-    let outline = Room {
-        left: 0,
-        bottom: 0,
-        right: u16::MAX,
-        top: u16::MAX,
-    };
-    let mut came_back = 0;
-    for _ in 0..PLANS {
+    let outline = Room::from([0, 0, u16::MAX, u16::MAX]);
+    repeat(152, 0..PLANS, |random, _| {
         let n = random.between(1, 255);
-        let mut plan = Floorplan::nested(n, outline, &mut random);
-        plan.shuffle(&mut random);
+        let mut plan = Floorplan::nested(n, outline, random);
+        plan.shuffle(random);
         there_and_back(&plan.rooms());
-        came_back += 1;
-    }
-    report(format_args!("{came_back} nested plans came back"));
-    assert_eq!(came_back, PLANS);
+    });
+    report(format_args!("{PLANS} nested plans came back"));
 }

@@ -2,11 +2,10 @@
 //! the slices changes, and nothing in them on a refusal, is part of every
 //! comparison.
 
-use compare::lists::record_length;
-use compare::rooms_in::rooms;
-use compare::walk::random_list;
-use compare::{Floorplan, GivenRooms, Random, Tally};
-use reference::{Refusal, Room};
+use compare::{Floorplan, GivenRooms, Tally};
+use reference::cases::walk::random_list;
+use reference::cases::{rooms, worked, Random};
+use reference::Refusal;
 
 /// A moved drawing of `n` labels.
 fn some_given(n: usize, random: &mut Random) -> GivenRooms {
@@ -16,29 +15,18 @@ fn some_given(n: usize, random: &mut Random) -> GivenRooms {
     plan.given()
 }
 
-/// The answer to an accepted list of `n` rooms.
-fn expected(n: usize, [record, labels, positions]: [usize; 3]) -> Result<usize, Refusal> {
-    if record < record_length(n) || labels < n || positions < n {
-        Err(Refusal::SliceShort)
-    } else {
-        Ok(record_length(n))
-    }
-}
-
 #[test]
 fn three_slices_of_all_lengths_near_the_needed_ones() {
-    let mut tally = Tally::new("three slices shorter or longer");
-    let mut random = Random::from_seed(131);
-    for n in 1..=255 {
-        let given = some_given(n, &mut random);
+    let name = "three slices shorter or longer";
+    let tally = Tally::of_rounds(name, 131, 1..=255, |tally, random, n| {
+        let given = some_given(n, random);
         let needed = given.needed();
         for choice in 0..3usize.pow(3) {
             let capacities =
                 [0, 1, 2].map(|which| needed[which] - 1 + choice / 3usize.pow(which as u32) % 3);
-            let answer = tally.rooms_in(&given, capacities);
-            assert_eq!(answer, expected(n, capacities), "{given}, {capacities:?}");
+            tally.expect_numbers(&given, capacities);
         }
-    }
+    });
     // Of the three lengths two are long enough.
     assert_eq!(tally.accepted(), 255 * 8);
     tally.finish(255 * 27);
@@ -46,65 +34,52 @@ fn three_slices_of_all_lengths_near_the_needed_ones() {
 
 #[test]
 fn one_slice_of_every_length_from_0_to_260() {
-    let mut tally = Tally::new("one slice of 0 to 260 entries");
-    let mut random = Random::from_seed(132);
-    for n in [1, 2, 7, 40, 254, 255] {
-        let given = some_given(n, &mut random);
+    let name = "one slice of 0 to 260 entries";
+    let counts = [1, 2, 7, 40, 254, 255];
+    let tally = Tally::of_rounds(name, 132, counts, |tally, random, n| {
+        let given = some_given(n, random);
         for which in 0..3 {
             for length in 0..=260 {
                 let mut capacities = given.needed();
                 capacities[which] = length;
-                let answer = tally.rooms_in(&given, capacities);
-                assert_eq!(answer, expected(n, capacities), "{given}, {capacities:?}");
+                tally.expect_numbers(&given, capacities);
             }
         }
-    }
+    });
     tally.finish(6 * 3 * 261);
 }
 
 #[test]
 fn refused_lists_leave_slices_of_every_length_from_0_to_260() {
-    let mut tally = Tally::new("refused, with slices of 0 to 260 entries");
-    let unit = [0, 0, 1, 1];
-    let squares = [unit, [1, 0, 2, 1], [0, 1, 1, 2], [1, 1, 2, 2]];
-    let columns = (0..255).map(|x| [x, 0, x + 1, 9]);
-    let columns_and = |changed: [u16; 4]| -> Vec<[u16; 4]> {
-        columns.clone().take(254).chain([changed]).collect()
-    };
-    let refused = [
-        (vec![], Refusal::ListLength),
-        (vec![unit; 256], Refusal::ListLength),
-        (vec![unit, [1, 0, 1, 1]], Refusal::EmptyRoom),
+    let columns = (0..254).map(|x| [x, 0, x + 1, 9]);
+    let columns_and = |last: [u16; 4]| -> Vec<[u16; 4]> { columns.clone().chain([last]).collect() };
+    let long = [
         (columns_and([254, 9, 255, 9]), Refusal::EmptyRoom),
-        (vec![unit, unit], Refusal::SharedSquare),
         (columns_and([253, 0, 255, 9]), Refusal::SharedSquare),
-        (vec![unit, [2, 0, 3, 1]], Refusal::OpenSquare),
         (columns_and([254, 0, 255, 8]), Refusal::OpenSquare),
-        (squares.to_vec(), Refusal::FourRoomsMeet),
-    ];
-    let kinds = refused.len();
-    for (corners, refusal) in refused {
-        let given = GivenRooms::new(rooms(&corners));
-        for length in 0..=260 {
-            let answer = tally.rooms_in(&given, [length; 3]);
-            assert_eq!(answer, Err(refusal), "{given} into {length}");
-        }
-    }
-    tally.finish(kinds * 261);
+    ]
+    .map(|(corners, refusal)| (rooms(&corners), refusal));
+    let refused: Vec<(GivenRooms, Refusal)> = worked::refused_rooms()
+        .into_iter()
+        .chain(long)
+        .map(|(rooms, refusal)| (GivenRooms::new(rooms), refusal))
+        .collect();
+    let name = "refused, with slices of 0 to 260 entries";
+    Tally::refused_at_every_length(name, &refused, 260, |tally, given, length| {
+        tally.rooms_in(given, [length; 3])
+    });
 }
 
 #[test]
 fn empty_lists_are_1() {
-    let mut tally = Tally::new("empty lists of rooms");
-    let given = GivenRooms::new([]);
-    for length in 0..=260 {
-        let answer = tally.rooms_in(&given, [length; 3]);
-        assert_eq!(answer, Err(Refusal::ListLength));
-    }
+    let empty = [(GivenRooms::new([]), Refusal::ListLength)];
+    let name = "empty lists of rooms";
+    Tally::refused_at_every_length(name, &empty, 260, |tally, given, length| {
+        tally.rooms_in(given, [length; 3])
+    });
     // Also where the slices are no part of anything.
     let answer = nenturxo::rooms_in(&[], &mut [], &mut [], &mut []);
     assert_eq!(answer, Err(nenturxo::Refusal::LIST_LENGTH));
-    tally.finish(261);
 }
 
 #[test]
@@ -132,18 +107,17 @@ fn lists_of_over_255_rooms_are_1_whatever_they_hold() {
 
 #[test]
 fn lists_of_254_and_255_rooms_are_not_1() {
-    let mut tally = Tally::new("lists of 254 and 255 rooms");
-    let mut random = Random::from_seed(133);
-    for n in [254, 255] {
-        tally.rooms(&some_given(n, &mut random));
+    let name = "lists of 254 and 255 rooms";
+    let tally = Tally::of_rounds(name, 133, [254, 255], |tally, random, n| {
+        tally.rooms(&some_given(n, random));
         for (room, refusal) in [
             ([9, 9, 9, 9], Refusal::EmptyRoom),
             ([3, 4, 5, 6], Refusal::SharedSquare),
         ] {
-            let list: Vec<Room> = rooms(&vec![room; n]);
+            let list = rooms(&vec![room; n]);
             tally.rooms(&GivenRooms::known(list, Err(refusal)));
         }
-    }
+    });
     assert_eq!(tally.accepted(), 2 * 2);
     tally.finish(2 * 3 * 3);
 }

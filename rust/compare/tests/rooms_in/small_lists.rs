@@ -1,7 +1,7 @@
 //! Every list of small rooms that is short enough, and random ones.
 
-use compare::rooms_in::rooms;
-use compare::{GivenRooms, Random, Tally};
+use compare::{GivenRooms, Tally};
+use reference::cases::rooms;
 use reference::Refusal;
 
 #[test]
@@ -50,9 +50,8 @@ fn every_list_of_3_rooms_in_a_2_by_2_box() {
 #[test]
 fn any_corners_at_all() {
     const LISTS: usize = 30_000;
-    let mut tally = Tally::new("lists of any corners at all");
-    let mut random = Random::from_seed(121);
-    for round in 0..LISTS {
+    let name = "lists of any corners at all";
+    let tally = Tally::of_rounds(name, 121, 0..LISTS, |tally, random, round| {
         // Mostly tiny numbers, so that some lists are floorplans.
         let most = [1, 2, 3, 65_535][round % 4];
         let mut number = || u16::try_from(random.between(0, most)).expect("16 bits");
@@ -66,16 +65,9 @@ fn any_corners_at_all() {
             [left.min(right - 1), bottom.min(top - 1), right, top]
         });
         tally.rooms(&GivenRooms::new(rooms(&upright.collect::<Vec<_>>())));
-    }
-    for refusal in [
-        Refusal::ListLength,
-        Refusal::EmptyRoom,
-        Refusal::SharedSquare,
-        Refusal::OpenSquare,
-    ] {
-        assert!(tally.refused(refusal) > 1000, "too few with {refusal:?}");
-    }
-    assert!(tally.refused(Refusal::FourRoomsMeet) > 10);
+    });
+    tally.expect_often(1000, &Refusal::OF_ROOMS[..4]);
+    tally.expect_often(10, &[Refusal::FourRoomsMeet]);
     assert!(tally.accepted() > 1000);
     tally.finish(2 * 3 * LISTS);
 }

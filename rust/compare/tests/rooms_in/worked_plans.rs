@@ -1,8 +1,9 @@
 //! Answers that are printed: the sheet's room plans, and the drawings of its
 //! label lists.
 
-use compare::rooms_in::rooms;
 use compare::{Floorplan, GivenRooms, Tally};
+use reference::cases::walk::Walked;
+use reference::cases::{rooms, worked};
 use reference::{Numbering, Refusal};
 
 /// Compares a list whose answer by the definitions must be this one.
@@ -46,52 +47,32 @@ fn worked_plans_of_the_sheet() {
 #[test]
 fn drawings_of_the_sheets_label_lists() {
     let mut tally = Tally::new("drawings of the sheet's label lists");
-    let worked: [(&[u8], &[u8]); 8] = [
-        (&[1], &[0x01]),
-        (&[1, 2], &[0x02, 0x40]),
-        (&[2, 1], &[0x02, 0xa0]),
-        (&[3, 4, 1, 2], &[0x04, 0x47, 0x00]),
-        (&[4, 1, 3, 5, 2], &[0x05, 0x31, 0x70]),
-        (&[4, 1, 3, 6, 5, 2], &[0x06, 0x30, 0x7e]),
-        (&[5, 2, 1, 4, 6, 3], &[0x06, 0x36, 0x2e]),
-        (&[2, 7, 3, 1, 5, 6, 4], &[0x07, 0x0e, 0x8d, 0xc0]),
-    ];
-    for (labels, record) in worked {
+    for (labels, record) in worked::LISTS {
         let given = GivenRooms::new(Floorplan::drawn(labels).rooms());
         let positions: Vec<u8> = (1..).take(labels.len()).collect();
         assert_eq!(given.answer, numbering(record, labels, &positions));
         tally.rooms(&given);
     }
-    tally.finish(8 * 3);
+    tally.finish_in_threes(8);
 }
 
 #[test]
 fn rows_and_piles_of_every_count() {
     let mut tally = Tally::new("rows and piles of 1 to 255 rooms");
-    for n in 1..=255u8 {
-        for labels in [(1..=n).collect::<Vec<u8>>(), (1..=n).rev().collect()] {
-            tally.rooms(&Floorplan::drawn(&labels).given());
+    for n in 1..=255 {
+        for walked in [Walked::rising(n), Walked::falling(n)] {
+            tally.rooms(&Floorplan::drawn(&walked.labels).given());
         }
     }
-    assert_eq!(tally.accepted(), 2 * 255 * 2);
-    tally.finish(2 * 255 * 3);
+    tally.finish_in_threes(2 * 255);
 }
 
 #[test]
 fn a_far_room_with_smaller_x_may_be_below_instead() {
     let mut tally = Tally::new("a trap of the sheet");
-    // The first room is left of the last one by x, yet the bar between them
-    // makes it below.
-    let list = [
-        [0, 0, 1, 1],
-        [1, 0, 4, 1],
-        [0, 1, 4, 2],
-        [0, 2, 3, 3],
-        [3, 2, 4, 3],
-    ];
-    let given = GivenRooms::new(rooms(&list));
+    let given = GivenRooms::new(rooms(&worked::FAR_ROOM.map(|(corners, _)| corners)));
     let labels = given.answer.as_ref().map(|answer| &answer.labels[..]);
-    assert_eq!(labels, Ok(&[4, 5, 3, 1, 2][..]));
+    assert_eq!(labels, Ok(&worked::FAR_ROOM.map(|(_, label)| label)[..]));
     tally.rooms(&given);
     tally.finish(3);
 }

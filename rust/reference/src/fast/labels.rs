@@ -12,7 +12,7 @@
 //! piece of code serves both ways. It has no branch that depends on the
 //! labels except to leave: in most lists no processor can guess the next turn.
 
-use super::{swap_if, BODY};
+use super::basics::{swap_if, BODY};
 use crate::Refusal;
 use std::hint::select_unpredictable;
 
@@ -159,6 +159,8 @@ fn triple(down: bool, joins_current: bool, joins_next: bool) -> u32 {
 
 #[cfg(test)]
 mod tests {
+    use crate::cases::walk::Walked;
+    use crate::cases::{each_permutation, every_list};
     use crate::{fast, labels_in};
 
     /// Compares the two versions on slices of every length that matters.
@@ -175,43 +177,23 @@ mod tests {
         }
     }
 
-    /// Compares on each order of the labels from `fixed` on.
-    fn compare_orders(labels: &mut [u8], fixed: usize) {
-        if fixed == labels.len() {
-            compare(labels);
-        }
-        for other in fixed..labels.len() {
-            labels.swap(fixed, other);
-            compare_orders(labels, fixed + 1);
-            labels.swap(fixed, other);
-        }
-    }
-
     #[test]
     fn agrees_with_the_definitions_on_every_permutation_of_up_to_8() {
         for n in 1..=8 {
-            compare_orders(&mut (1..=n).collect::<Vec<u8>>(), 0);
+            each_permutation(n, compare);
         }
     }
 
     #[test]
     fn agrees_with_the_definitions_on_every_list_of_up_to_5_over_0_to_6() {
         for length in 0..=5 {
-            for number in 0..7usize.pow(length) {
-                let digit = |place| u8::try_from(number / 7usize.pow(place) % 7).unwrap();
-                compare(&(0..length).map(digit).collect::<Vec<u8>>());
-            }
+            every_list(6, length).for_each(|labels| compare(&labels));
         }
     }
 
     #[test]
     fn agrees_with_the_definitions_where_the_runs_are_most() {
-        // 1 3 5 .. 255 are 128 runs; then the gaps are filled from either end.
-        let odd = || (1..=255u8).step_by(2);
-        let even = || (2..=254u8).step_by(2);
-        let falling: Vec<u8> = odd().chain(even().rev()).collect();
-        let rising: Vec<u8> = odd().rev().chain(even()).collect();
-        for mut labels in [falling, rising] {
+        for Walked { mut labels, .. } in Walked::with_128_runs() {
             compare(&labels);
             labels.swap(3, 200);
             compare(&labels);

@@ -17,10 +17,11 @@ pub fn record_in(record: &[u8], labels: &mut [u8], corners: Corners<'_>) -> Resu
     walk(n, &steps, &mut seen)?;
 
     let labels = labels.get_mut(..n).ok_or(Refusal::SliceShort)?;
-    let left = corners.left.get_mut(..n).ok_or(Refusal::SliceShort)?;
-    let bottom = corners.bottom.get_mut(..n).ok_or(Refusal::SliceShort)?;
-    let right = corners.right.get_mut(..n).ok_or(Refusal::SliceShort)?;
-    let top = corners.top.get_mut(..n).ok_or(Refusal::SliceShort)?;
+    let [left, bottom, right, top] = corners;
+    let left = left.get_mut(..n).ok_or(Refusal::SliceShort)?;
+    let bottom = bottom.get_mut(..n).ok_or(Refusal::SliceShort)?;
+    let right = right.get_mut(..n).ok_or(Refusal::SliceShort)?;
+    let top = top.get_mut(..n).ok_or(Refusal::SliceShort)?;
 
     for place in 0..n {
         (left[place], bottom[place]) = starts(place, steps[place], seen[place]);
@@ -35,7 +36,7 @@ pub fn record_in(record: &[u8], labels: &mut [u8], corners: Corners<'_>) -> Resu
     Ok(n)
 }
 
-/// The question, with the answers of [`crate::question`].
+/// The question, with the answers of [`crate::question()`].
 ///
 /// # Errors
 ///
@@ -117,7 +118,9 @@ fn ends(place: usize, step: Step, entered: u16) -> (u16, u16) {
 
 #[cfg(test)]
 mod tests {
-    use crate::{fast, plan_of, question, record_in, record_of, Corners, Runs, Triple, TRIPLES};
+    use crate::cases::walk::random_list;
+    use crate::cases::Random;
+    use crate::{fast, plan_of, question, record_in, record_of, TRIPLES};
 
     /// Compares the two versions of "Record in" on slices of `capacity` entries.
     fn compare_into(record: &[u8], capacity: usize) {
@@ -125,17 +128,8 @@ mod tests {
         for call in [record_in, fast::record_in] {
             let mut labels = vec![0xa5; capacity];
             let mut corners = [(); 4].map(|()| vec![0xa5a5; capacity]);
-            let [left, bottom, right, top] = &mut corners;
-            let answer = call(
-                record,
-                &mut labels,
-                Corners {
-                    left,
-                    bottom,
-                    right,
-                    top,
-                },
-            );
+            let slices = corners.each_mut().map(|corner| &mut corner[..]);
+            let answer = call(record, &mut labels, slices);
             outcomes.push((answer, labels, corners));
         }
         assert_eq!(outcomes[0], outcomes[1], "{record:02x?} into {capacity}");
@@ -186,25 +180,10 @@ mod tests {
 
     #[test]
     fn agrees_with_the_definitions_on_long_walks() {
-        let mut state: u32 = 1;
+        let mut random = Random::from_seed(1);
         for n in [7, 8, 9, 30, 100, 254, 255] {
             for _ in 0..2 {
-                let (mut runs, mut triples) = (Runs::start(), Vec::new());
-                for to_come in (0..n - 1).rev() {
-                    let fits = |&triple: &Triple| {
-                        let mut after = runs.clone();
-                        runs.have_what_it_needs(triple) && {
-                            after.step(triple);
-                            after.p() + after.q() <= to_come
-                        }
-                    };
-                    let choices: Vec<Triple> = TRIPLES.into_iter().filter(fits).collect();
-                    state = state.wrapping_mul(1_664_525).wrapping_add(1_013_904_223);
-                    let triple = choices[(state >> 16) as usize % choices.len()];
-                    runs.step(triple);
-                    triples.push(triple);
-                }
-                compare(&record_of(u8::try_from(n).unwrap(), &triples));
+                compare(&random_list(n, &mut random).record());
             }
         }
     }

@@ -9,10 +9,8 @@
 mod links;
 mod sorting;
 
-use super::BODY;
-use crate::labels::room_count;
-use crate::plan::front;
-use crate::{Refusal, Room};
+use super::basics::BODY;
+use crate::{Numbered, Refusal, Room};
 use links::{links, Links};
 
 /// Rooms in, with the answers of [`crate::rooms_in`].
@@ -22,19 +20,17 @@ use links::{links, Links};
 /// As there.
 // Not inlined, so that a benchmark pays for a call as with a library.
 #[inline(never)]
-pub fn rooms_in(
-    rooms: &[Room],
-    record: &mut [u8],
-    labels: &mut [u8],
-    positions: &mut [u8],
-) -> Result<usize, Refusal> {
-    let kind = room_count(rooms).ok_or(Refusal::ListLength)?;
+pub fn rooms_in(rooms: &[Room], slices: Numbered<'_>) -> Result<usize, Refusal> {
+    let kind = u8::try_from(rooms.len()).map_err(|_| Refusal::ListLength)?;
+    if kind == 0 {
+        return Err(Refusal::ListLength);
+    }
     let outline = outline(rooms).ok_or(Refusal::EmptyRoom)?;
     // The store is cleared before each use, so a small plan gets a small one.
     match kind {
-        0..=15 => enter::<16, 17>(rooms, outline, record, labels, positions),
-        16..=63 => enter::<64, 65>(rooms, outline, record, labels, positions),
-        64..=255 => enter::<256, 257>(rooms, outline, record, labels, positions),
+        0..=15 => enter::<16, 17>(rooms, outline, slices),
+        16..=63 => enter::<64, 65>(rooms, outline, slices),
+        64..=255 => enter::<256, 257>(rooms, outline, slices),
     }
 }
 
@@ -63,18 +59,17 @@ fn outline(rooms: &[Room]) -> Option<Room> {
 fn enter<const STORE: usize, const PLACES: usize>(
     rooms: &[Room],
     outline: Room,
-    record: &mut [u8],
-    labels: &mut [u8],
-    positions: &mut [u8],
+    slices: Numbered<'_>,
 ) -> Result<usize, Refusal> {
     let Some(links) = links::<STORE, PLACES>(rooms, outline) else {
         return Err(cause(rooms, outline));
     };
     let n = rooms.len();
     let length = 1 + (3 * n - 3).div_ceil(8);
-    let record = front(record, length)?;
-    let labels = front(labels, n)?;
-    let positions = front(positions, n)?;
+    let [record, labels, positions] = slices;
+    let record = record.get_mut(..length).ok_or(Refusal::SliceShort)?;
+    let labels = labels.get_mut(..n).ok_or(Refusal::SliceShort)?;
+    let positions = positions.get_mut(..n).ok_or(Refusal::SliceShort)?;
 
     let body = write_orders(&links, labels, positions);
     record[0] = n as u8;
@@ -132,7 +127,9 @@ fn cause(rooms: &[Room], outline: Room) -> Refusal {
 
 #[cfg(test)]
 mod tests {
-    use crate::{drawing, fast, labels_of, numbering_of, Refusal, Room, Runs, Triple, TRIPLES};
+    use crate::cases::walk::random_list;
+    use crate::cases::{baxter_lists_up_to, every_code, Random};
+    use crate::{drawing, fast, labels_of, numbering_of, Refusal, Room};
 
     /// Compares the two versions on slices of every length that matters, and
     /// gives the answer to long ones.
@@ -149,13 +146,11 @@ mod tests {
         ] {
             let mut expected = lengths.map(|length| vec![0xa5; length]);
             let mut found = expected.clone();
-            let [record, labels, positions] = &mut expected;
             answer = match &defined {
-                Ok(numbering) => numbering.write(record, labels, positions),
+                Ok(numbering) => numbering.write(expected.each_mut().map(|slice| &mut slice[..])),
                 Err(refusal) => Err(*refusal),
             };
-            let [record, labels, positions] = &mut found;
-            let by_fast = fast::rooms_in(rooms, record, labels, positions);
+            let by_fast = fast::rooms_in(rooms, found.each_mut().map(|slice| &mut slice[..]));
             assert_eq!(by_fast, answer, "{rooms:?} into {lengths:?}");
             assert_eq!(found, expected, "{rooms:?} into {lengths:?}");
         }
@@ -191,46 +186,25 @@ mod tests {
     #[test]
     fn agrees_with_the_definitions_on_every_drawing_of_up_to_6_labels() {
         let mut drawings = 0;
-        for n in 1..=6u32 {
-            for code in 0..8usize.pow(n - 1) {
-                let triples: Vec<Triple> = (0..n - 1)
-                    .map(|place| TRIPLES[code / 8usize.pow(place) % 8])
-                    .collect();
-                if let Ok(labels) = labels_of(&triples) {
+        for n in 1..=6 {
+            for (number, code) in every_code(n).enumerate() {
+                if let Ok(labels) = labels_of(&code) {
                     let mut rooms = drawing(&labels);
-                    rooms.rotate_left(code % labels.len());
+                    rooms.rotate_left(number % labels.len());
                     assert!(compare(&rooms).is_ok(), "{rooms:?}");
                     drawings += 1;
                 }
             }
         }
-        assert_eq!(drawings, 1 + 2 + 6 + 22 + 92 + 422);
+        assert_eq!(drawings, baxter_lists_up_to(6));
     }
 
     #[test]
     fn agrees_with_the_definitions_on_long_lists() {
-        let mut state: u32 = 1;
-        let mut below = |end: usize| {
-            state = state.wrapping_mul(1_664_525).wrapping_add(1_013_904_223);
-            (state >> 16) as usize % end
-        };
+        let mut random = Random::from_seed(1);
         for n in [14, 15, 16, 17, 62, 63, 64, 65, 254, 255, 255] {
-            let mut runs = Runs::start();
-            for to_come in (0..n - 1).rev() {
-                let fits = |&triple: &Triple| {
-                    let mut after = runs.clone();
-                    runs.have_what_it_needs(triple) && {
-                        after.step(triple);
-                        after.p() + after.q() <= to_come
-                    }
-                };
-                let choices: Vec<Triple> = TRIPLES.into_iter().filter(fits).collect();
-                runs.step(choices[below(choices.len())]);
-            }
-            let mut rooms = drawing(&runs.labels());
-            for last in (1..n).rev() {
-                rooms.swap(last, below(last + 1));
-            }
+            let mut rooms = drawing(&random_list(n, &mut random).labels);
+            random.shuffle(&mut rooms);
             assert!(compare(&rooms).is_ok(), "{rooms:?}");
             // A room left out, and one twice.
             let left_out = rooms.pop();

@@ -1,6 +1,6 @@
 //! The steps of a record.
 
-use super::BODY;
+use super::basics::BODY;
 use crate::Refusal;
 
 /// A step of the sheet's table, seen in its direction: bit 0 if it goes down,

@@ -17,8 +17,8 @@
 //! serves both ways. It has no branch that depends on the steps except to
 //! leave: in most records no processor can guess the next turn.
 
+use super::basics::swap_if;
 use super::steps::Steps;
-use super::swap_if;
 use crate::Refusal;
 use std::hint::select_unpredictable;
 

@@ -77,8 +77,9 @@ mod tests {
     use std::collections::BTreeSet;
 
     use super::{segments, supports_of, Segment};
+    use crate::cases::rooms;
+    use crate::drawing;
     use crate::touch::{Edge, Line};
-    use crate::{drawing, Room};
 
     #[test]
     fn the_segments_of_a_pinwheel() {
@@ -97,19 +98,8 @@ mod tests {
     fn two_runs_on_one_line_are_two_segments() {
         // Two pairs of rooms, one above the other with a bar between: both
         // are parted at x = 2, and no segment crosses the bar.
-        let rooms = [
-            [0, 0, 2, 1],
-            [2, 0, 4, 1],
-            [0, 1, 4, 2],
-            [0, 2, 2, 3],
-            [2, 2, 4, 3],
-        ]
-        .map(|[left, bottom, right, top]| Room {
-            left,
-            bottom,
-            right,
-            top,
-        });
+        let pair = |y| [[0, y, 2, y + 1], [2, y, 4, y + 1]];
+        let rooms = rooms(&[&pair(0)[..], &[[0, 1, 4, 2]], &pair(2)].concat());
         let supports = supports_of(&rooms);
         assert_eq!(supports[0].right, supports[1].left);
         assert_eq!(supports[3].right, supports[4].left);

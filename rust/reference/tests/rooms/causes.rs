@@ -1,6 +1,7 @@
 //! The causes 1 to 5 to the letter, on every unit square and every point.
 
-use crate::help::{ask, rooms, Dice};
+use crate::help::ask;
+use reference::cases::{rooms, Random};
 use reference::{Refusal, Room};
 
 /// The cause that a list has, if any. Nothing is left out by ranks here.
@@ -71,16 +72,16 @@ fn every_list_of_up_to_2_rooms_in_a_3_by_3_box() {
 /// Cuts a box of 6 by 6 at a few places, then spoils it in some rounds.
 #[test]
 fn boxes_cut_at_random_and_spoiled() {
-    let mut dice = Dice(5);
+    let mut random = Random::from_seed(5);
     let mut met = [0; 6];
     for round in 0..40_000 {
         let mut corners = vec![[0, 0, 6, 6]];
-        for _ in 0..dice.below(7) {
-            let at = dice.below(corners.len());
-            let way = dice.below(2);
+        for _ in 0..random.below(7) {
+            let at = random.below(corners.len());
+            let way = random.below(2);
             let mut other = corners[at];
             if other[way + 2] - other[way] >= 2 {
-                let cut = dice.between(other[way] + 1, other[way + 2] - 1);
+                let cut = random.number(other[way] + 1, other[way + 2] - 1);
                 corners[at][way + 2] = cut;
                 other[way] = cut;
                 corners.push(other);
@@ -88,15 +89,15 @@ fn boxes_cut_at_random_and_spoiled() {
         }
         match round % 4 {
             0 => {
-                let at = dice.below(corners.len());
-                corners[at][dice.below(4)] = dice.between(0, 7);
+                let at = random.below(corners.len());
+                corners[at][random.below(4)] = random.number(0, 7);
             }
             1 => {
-                corners.remove(dice.below(corners.len()));
+                corners.remove(random.below(corners.len()));
             }
             _ => {}
         }
-        dice.shuffle(&mut corners);
+        random.shuffle(&mut corners);
         check(&rooms(&corners), &mut met);
     }
     assert!(met.iter().all(|&count| count > 500), "{met:?}");

@@ -1,10 +1,8 @@
 //! The rooms of a drawing give the list back that they were drawn from.
 
-use crate::help::{ask, baxter_lists, Dice};
+use crate::help::{ask, label_list};
+use reference::cases::{baxter_lists, baxter_lists_up_to, Random};
 use reference::{drawing, labels_in, Room};
-
-/// The number of Baxter lists of 1 to 6 labels.
-const BAXTER: usize = 1 + 2 + 6 + 22 + 92 + 422;
 
 /// Calls `visit` with each Baxter list of up to 6 labels, the record of that
 /// list and its drawing.
@@ -18,7 +16,7 @@ fn each_drawing(mut visit: impl FnMut(&[u8], &[u8], &[Room])) {
             drawings += 1;
         }
     }
-    assert_eq!(drawings, BAXTER);
+    assert_eq!(drawings, baxter_lists_up_to(6));
 }
 
 #[test]
@@ -38,24 +36,35 @@ fn check(labels: &[u8], record: &[u8], places: &[usize], moved: impl Fn(usize) -
     let list: Vec<Room> = places.iter().map(|&place| moved(place)).collect();
     let answer = ask(&list).unwrap();
     assert_eq!(answer.record, record, "{list:?}");
-    assert_eq!(answer.label_list(), labels, "{list:?}");
+    assert_eq!(label_list(&answer), labels, "{list:?}");
     for (at, &place) in places.iter().enumerate() {
         assert_eq!(answer.labels[at], labels[place], "{list:?}");
         assert_eq!(usize::from(answer.positions[at]), place + 1, "{list:?}");
     }
 }
 
+/// A strictly rising function on the numbers 0 to `last`: its values.
+fn rising(last: u16, random: &mut Random) -> Vec<u16> {
+    let mut value = random.number(0, 20_000);
+    (0..=last)
+        .map(|_| {
+            value += random.number(1, 4000);
+            value
+        })
+        .collect()
+}
+
 #[test]
 fn every_drawing_shuffled_shifted_and_stretched() {
-    let mut dice = Dice(1);
+    let mut random = Random::from_seed(1);
     each_drawing(|labels, record, rooms| {
         let n = u16::try_from(labels.len()).unwrap();
         let mut places: Vec<usize> = (0..rooms.len()).collect();
         for _ in 0..6 {
-            dice.shuffle(&mut places);
+            random.shuffle(&mut places);
             check(labels, record, &places, |place| rooms[place]);
 
-            let (x, y) = (dice.between(0, 65_535 - n), 65_535 - n);
+            let (x, y) = (random.number(0, 65_535 - n), 65_535 - n);
             check(labels, record, &places, |place| Room {
                 left: rooms[place].left + x,
                 bottom: rooms[place].bottom + y,
@@ -63,7 +72,7 @@ fn every_drawing_shuffled_shifted_and_stretched() {
                 top: rooms[place].top + y,
             });
 
-            let (across, up) = (dice.rising(n), dice.rising(n));
+            let (across, up) = (rising(n, &mut random), rising(n, &mut random));
             check(labels, record, &places, |place| Room {
                 left: across[usize::from(rooms[place].left)],
                 bottom: up[usize::from(rooms[place].bottom)],

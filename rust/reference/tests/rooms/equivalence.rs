@@ -1,20 +1,21 @@
 //! Records are equal exactly where floorplans are equivalent.
 
-use crate::help::{ask, baxter_lists, rooms, Dice};
+use crate::help::ask;
+use reference::cases::{baxter_lists, rooms, Random};
 use reference::{drawing, equivalent, Room};
 use std::collections::BTreeMap;
 
 #[test]
 fn all_pairs_of_drawings_of_up_to_4_labels() {
-    let mut dice = Dice(3);
+    let mut random = Random::from_seed(3);
     let lists: Vec<Vec<u8>> = (1..=4).flat_map(baxter_lists).collect();
     assert_eq!(lists.len(), 1 + 2 + 6 + 22);
     let mut pairs = 0;
     for a in lists.iter().map(|labels| drawing(labels)) {
         for b in lists.iter().map(|labels| drawing(labels)) {
             let (mut a, mut b) = (a.clone(), b);
-            dice.shuffle(&mut a);
-            dice.shuffle(&mut b);
+            random.shuffle(&mut a);
+            random.shuffle(&mut b);
             let same = ask(&a).unwrap().record == ask(&b).unwrap().record;
             assert_eq!(same, equivalent(&a, &b), "{a:?} and {b:?}");
             pairs += usize::from(same);

@@ -1,14 +1,14 @@
 //! Slices of the needed length and shorter ones.
 
-use crate::help::{ask, baxter_lists, rooms};
+use crate::help::ask;
+use reference::cases::{baxter_lists, rooms, worked};
 use reference::{drawing, rooms_in, Refusal, Room};
 
 /// Asks with slices of these lengths. A refusal must leave all as they were.
 fn ask_with(rooms: &[Room], lengths: [usize; 3]) -> Result<[Vec<u8>; 3], Refusal> {
     let before = lengths.map(|length| vec![0xA5; length]);
     let mut slices = before.clone();
-    let [record, labels, positions] = &mut slices;
-    let answer = rooms_in(rooms, record, labels, positions);
+    let answer = rooms_in(rooms, slices.each_mut().map(|slice| &mut slice[..]));
     if answer.is_err() {
         assert_eq!(slices, before);
     }
@@ -44,24 +44,11 @@ fn the_needed_lengths_are_enough_and_one_less_is_15() {
 
 #[test]
 fn a_cause_in_the_rooms_comes_before_15() {
-    let unit = [0, 0, 1, 1];
-    for (list, cause) in [
-        (vec![], Refusal::ListLength),
-        (vec![unit; 256], Refusal::ListLength),
-        (vec![unit, [1, 0, 1, 1]], Refusal::EmptyRoom),
-        (vec![unit, unit], Refusal::SharedSquare),
-        (vec![unit, [2, 0, 3, 1]], Refusal::OpenSquare),
-        (
-            vec![unit, [1, 0, 2, 1], [0, 1, 1, 2], [1, 1, 2, 2]],
-            Refusal::FourRoomsMeet,
-        ),
-        // and without such a cause
-        (vec![unit, [1, 0, 2, 1]], Refusal::SliceShort),
-    ] {
-        let list = rooms(&list);
+    for (list, cause) in worked::refused_rooms() {
         assert_eq!(ask_with(&list, [0, 0, 0]), Err(cause));
-        if cause != Refusal::SliceShort {
-            assert_eq!(ask_with(&list, [97, 255, 255]), Err(cause));
-        }
+        assert_eq!(ask_with(&list, [97, 255, 255]), Err(cause));
     }
+    // and without such a cause
+    let row = rooms(&[[0, 0, 1, 1], [1, 0, 2, 1]]);
+    assert_eq!(ask_with(&row, [0, 0, 0]), Err(Refusal::SliceShort));
 }

@@ -1,55 +1,41 @@
 //! The sheet's worked plans, and one list for each cause.
 
-use crate::help::{ask, rooms};
-use reference::{drawing, Refusal};
+use crate::help::{ask, label_list};
+use reference::cases::{rooms, worked};
+use reference::{drawing, Numbering, Refusal};
 
-#[test]
-fn two_rooms_side_by_side_in_either_order() {
-    let answer = ask(&rooms(&[[0, 0, 1, 1], [1, 0, 2, 1]])).unwrap();
-    assert_eq!(answer.record, [0x02, 0x40]);
-    assert_eq!(answer.labels, [1, 2]);
-    assert_eq!(answer.positions, [1, 2]);
-    let answer = ask(&rooms(&[[1, 0, 2, 1], [0, 0, 1, 1]])).unwrap();
-    assert_eq!(answer.record, [0x02, 0x40]);
-    assert_eq!(answer.labels, [2, 1]);
-    assert_eq!(answer.positions, [2, 1]);
+/// Compares what a list is answered with: record, labels and positions.
+fn expect(corners: &[[u16; 4]], [record, labels, positions]: [&[u8]; 3]) {
+    let expected = Numbering {
+        record: record.to_vec(),
+        labels: labels.to_vec(),
+        positions: positions.to_vec(),
+    };
+    assert_eq!(ask(&rooms(corners)), Ok(expected), "{corners:?}");
 }
 
 #[test]
-fn two_rooms_one_above_the_other_in_either_order() {
-    let answer = ask(&rooms(&[[0, 0, 1, 1], [0, 1, 1, 2]])).unwrap();
-    assert_eq!(answer.record, [0x02, 0xA0]);
-    assert_eq!(answer.labels, [2, 1]);
-    assert_eq!(answer.positions, [1, 2]);
-    let answer = ask(&rooms(&[[0, 1, 1, 2], [0, 0, 1, 1]])).unwrap();
-    assert_eq!(answer.record, [0x02, 0xA0]);
-    assert_eq!(answer.labels, [1, 2]);
-    assert_eq!(answer.positions, [2, 1]);
+fn two_rooms_in_either_order() {
+    let [unit, right, upper] = [[0, 0, 1, 1], [1, 0, 2, 1], [0, 1, 1, 2]];
+    // side by side
+    expect(&[unit, right], [&[0x02, 0x40], &[1, 2], &[1, 2]]);
+    expect(&[right, unit], [&[0x02, 0x40], &[2, 1], &[2, 1]]);
+    // one above the other
+    expect(&[unit, upper], [&[0x02, 0xA0], &[2, 1], &[1, 2]]);
+    expect(&[upper, unit], [&[0x02, 0xA0], &[1, 2], &[2, 1]]);
 }
 
 #[test]
-fn four_unit_squares_are_5() {
-    let squares = rooms(&[[0, 0, 1, 1], [1, 0, 2, 1], [0, 1, 1, 2], [1, 1, 2, 2]]);
-    assert_eq!(ask(&squares), Err(Refusal::FourRoomsMeet));
-}
-
-#[test]
-fn a_gap_is_4() {
-    let gap = rooms(&[[0, 0, 1, 1], [2, 0, 3, 1]]);
-    assert_eq!(ask(&gap), Err(Refusal::OpenSquare));
+fn a_gap_is_4_and_four_unit_squares_are_5() {
+    for (list, refusal) in worked::refused_rooms() {
+        assert_eq!(ask(&list), Err(refusal), "{list:?}");
+    }
 }
 
 #[test]
 fn the_smallest_and_the_largest_room() {
-    for corners in [
-        [0, 0, 1, 1],
-        [65_534, 65_534, 65_535, 65_535],
-        [0, 0, 65_535, 65_535],
-    ] {
-        let answer = ask(&rooms(&[corners])).unwrap();
-        assert_eq!(answer.record, [0x01]);
-        assert_eq!(answer.labels, [1]);
-        assert_eq!(answer.positions, [1]);
+    for (first, last) in [(0, 1), (65_534, 65_535), (0, 65_535)] {
+        expect(&[[first, first, last, last]], [&[0x01], &[1], &[1]]);
     }
 }
 
@@ -105,33 +91,25 @@ fn the_causes_come_in_their_order() {
 
 #[test]
 fn a_pinwheel_of_five() {
-    let pinwheel = rooms(&[
-        [200, 10, 300, 50],
-        [0, 20, 90, 60],
-        [90, 20, 200, 50],
-        [90, 50, 300, 60],
-        [0, 10, 200, 20],
-    ]);
-    let answer = ask(&pinwheel).unwrap();
-    assert_eq!(answer.label_list(), [4, 1, 3, 5, 2]);
-    assert_eq!(answer.record, [0x05, 0x31, 0x70]);
-    assert_eq!(answer.labels, [5, 1, 3, 2, 4]);
-    assert_eq!(answer.positions, [4, 2, 3, 5, 1]);
+    // The rooms, each with its label and its position.
+    let pinwheel = [
+        ([200, 10, 300, 50], 5, 4),
+        ([0, 20, 90, 60], 1, 2),
+        ([90, 20, 200, 50], 3, 3),
+        ([90, 50, 300, 60], 2, 5),
+        ([0, 10, 200, 20], 4, 1),
+    ];
+    let corners = pinwheel.map(|(corners, _, _)| corners);
+    let labels = pinwheel.map(|(_, label, _)| label);
+    let positions = pinwheel.map(|(_, _, position)| position);
+    expect(&corners, [&worked::LISTED, &labels, &positions]);
+    let answer = ask(&rooms(&corners)).unwrap();
+    assert_eq!(label_list(&answer), [4, 1, 3, 5, 2]);
 }
 
 #[test]
 fn the_rooms_of_the_worked_label_lists() {
-    let worked: [(&[u8], &[u8]); 8] = [
-        (&[1], &[0x01]),
-        (&[1, 2], &[0x02, 0x40]),
-        (&[2, 1], &[0x02, 0xA0]),
-        (&[3, 4, 1, 2], &[0x04, 0x47, 0x00]),
-        (&[4, 1, 3, 5, 2], &[0x05, 0x31, 0x70]),
-        (&[4, 1, 3, 6, 5, 2], &[0x06, 0x30, 0x7E]),
-        (&[5, 2, 1, 4, 6, 3], &[0x06, 0x36, 0x2E]),
-        (&[2, 7, 3, 1, 5, 6, 4], &[0x07, 0x0E, 0x8D, 0xC0]),
-    ];
-    for (labels, record) in worked {
+    for (labels, record) in worked::LISTS {
         let answer = ask(&drawing(labels)).unwrap();
         assert_eq!(answer.record, record);
         assert_eq!(answer.labels, labels);
@@ -140,16 +118,9 @@ fn the_rooms_of_the_worked_label_lists() {
 
 #[test]
 fn a_far_room_with_smaller_x_may_be_below_instead() {
-    // The trap of the sheet: the first room is left of the last by x, yet
-    // the bar between them makes it below.
-    let list = rooms(&[
-        [0, 0, 1, 1],
-        [1, 0, 4, 1],
-        [0, 1, 4, 2],
-        [0, 2, 3, 3],
-        [3, 2, 4, 3],
-    ]);
-    let answer = ask(&list).unwrap();
-    assert_eq!(answer.label_list(), [4, 5, 3, 1, 2]);
+    let corners = worked::FAR_ROOM.map(|(corners, _)| corners);
+    let answer = ask(&rooms(&corners)).unwrap();
+    let labels = worked::FAR_ROOM.map(|(_, label)| label);
+    assert_eq!(label_list(&answer), labels);
     assert_eq!(answer.positions, [1, 2, 3, 4, 5]);
 }

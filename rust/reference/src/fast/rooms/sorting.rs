@@ -96,26 +96,24 @@ fn count(rooms: &[Room], bottoms: &mut [Edge], tops: &mut [Edge]) {
         |room| room.left,
         |at, place| by_left[at] = place,
     );
-    order(
-        rooms,
-        &by_left,
-        bottom,
-        |room| room.bottom,
-        |at, place| {
-            let room = &rooms[usize::from(place)];
-            bottoms[at] = Edge::new(room.bottom, room.left, room.right, place);
-        },
-    );
-    order(
-        rooms,
-        &by_left,
-        top,
-        |room| room.top,
-        |at, place| {
-            let room = &rooms[usize::from(place)];
-            tops[at] = Edge::new(room.top, room.left, room.right, place);
-        },
-    );
+    order_edges(rooms, &by_left, bottom, |room| room.bottom, bottoms);
+    order_edges(rooms, &by_left, top, |room| room.top, tops);
+}
+
+/// Writes one edge of each room by rows, those of one row in the order that
+/// there is.
+#[inline(always)]
+fn order_edges(
+    rooms: &[Room],
+    before: &[u8; 256],
+    counts: Counts,
+    row: impl Fn(&Room) -> u16,
+    edges: &mut [Edge],
+) {
+    order(rooms, before, counts, &row, |at, place| {
+        let room = &rooms[usize::from(place)];
+        edges[at] = Edge::new(row(room), room.left, room.right, place);
+    });
 }
 
 /// Puts the rooms in the order of a number, those with equal ones in the order

@@ -35,6 +35,16 @@ impl Random {
         first + self.below(last - first + 1)
     }
 
+    /// A 16-bit number from `first` to `last`, both included.
+    ///
+    /// # Panics
+    ///
+    /// Never: the number is at most `last`.
+    pub fn number(&mut self, first: u16, last: u16) -> u16 {
+        let number = self.between(usize::from(first), usize::from(last));
+        u16::try_from(number).expect("at most `last`")
+    }
+
     /// Any byte.
     pub fn byte(&mut self) -> u8 {
         self.next().to_be_bytes()[0]

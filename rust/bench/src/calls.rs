@@ -1,0 +1,94 @@
+//! The calls, as they are timed.
+
+use crate::case::Case;
+use crate::outputs::{Drawing, Numbers};
+use crate::room_list::RoomList;
+use crate::timing::{one_turn, quickest, Times};
+use nenturxo::RECORD_CAPACITY;
+use reference::fast;
+
+/// A call by name.
+#[derive(Clone, Copy)]
+pub struct Call {
+    pub name: &'static str,
+    /// Takes the times of so many calls of the library and of the tuned Rust
+    /// version.
+    pub times: fn(&[Case], usize) -> Times,
+    /// Takes the time of the Rust version that is written straight from the
+    /// sheet.
+    pub sheet: fn(&[Case]) -> f64,
+}
+
+pub const LABELS_IN: Call = Call {
+    name: "Labels in",
+    times: |cases, calls| {
+        let [mut record, mut same] = [[0; RECORD_CAPACITY]; 2];
+        quickest(
+            cases,
+            calls,
+            |case| nenturxo::labels_in(&case.labels, &mut record),
+            |case| fast::labels_in(&case.labels, &mut same),
+        )
+    },
+    sheet: |cases| {
+        let mut record = [0; RECORD_CAPACITY];
+        one_turn(cases, |case| {
+            reference::labels_in(&case.labels, &mut record)
+        })
+    },
+};
+
+pub const RECORD_IN: Call = Call {
+    name: "Record in",
+    times: |cases, calls| {
+        let [mut drawing, mut same] = [Drawing::new(), Drawing::new()];
+        quickest(
+            cases,
+            calls,
+            |case| drawing.slices().library(&case.record),
+            |case| same.slices().fast(&case.record),
+        )
+    },
+    sheet: |cases| {
+        let mut drawing = Drawing::new();
+        one_turn(cases, |case| drawing.slices().sheet(&case.record))
+    },
+};
+
+pub const ROOMS_IN: Call = Call {
+    name: "Rooms in",
+    times: |cases, calls| rooms_in(cases, calls, |case| &case.list),
+    sheet: |cases| {
+        let mut numbers = Numbers::new();
+        one_turn(cases, |case| numbers.by_sheet(&case.list))
+    },
+};
+
+pub const QUESTION: Call = Call {
+    name: "Question",
+    times: |cases, calls| {
+        quickest(
+            cases,
+            calls,
+            |case| nenturxo::question(&case.record, case.first, case.second),
+            |case| fast::question(&case.record, case.first, case.second),
+        )
+    },
+    sheet: |cases| {
+        one_turn(cases, |case| {
+            reference::question(&case.record, case.first, case.second)
+        })
+    },
+};
+
+/// The times of so many calls of "Rooms in" on the lists of cases, accepted or
+/// refused.
+pub fn rooms_in<T>(cases: &[T], calls: usize, list_of: impl Fn(&T) -> &RoomList) -> Times {
+    let [mut numbers, mut same] = [Numbers::new(), Numbers::new()];
+    quickest(
+        cases,
+        calls,
+        |case| numbers.by_library(list_of(case)),
+        |case| same.by_tuned(list_of(case)),
+    )
+}
