@@ -1,4 +1,2 @@
 -- Laws that the functions' proofs cite.
 pub mod Asked
-pub mod Drawn
-pub mod Given

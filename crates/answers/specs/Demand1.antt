@@ -1,41 +1,24 @@
--- Demand 1 for records and questions: "either its result or one of the numbered refusals, in the stated order". "A cause found gives its number, and no number
--- comes without its cause."
-use mathlib.Core.Bool.{Bool}
+-- Demand 1 for records: "either its result or one of the numbered refusals, in the stated order". "A cause found gives its number,
+-- and no number comes without its cause."
 use mathlib.Core.List.{List}
-use mathlib.Core.Logic.{_≢_, _⊎_, ite, if-pos, if-neg}
-use mathlib.Core.Path.{_≡_, sym, subst, _∙_}
+use mathlib.Core.Logic.{ite, if-pos, if-neg}
+use mathlib.Core.Path.{_≡_, sym, _∙_}
 use Prim.Native.Nat.{ℕ}
-use native.Mathlib.Decide.{ℕ-discrete}
-use Rattle.finite.specs.Decide.{Tells, holds, holds-tells, tells-holds}
-use Rattle.record.specs.Labels.{labelAt}
-use Rattle.record.specs.Read.{kindOf, labelsOf}
-use Rattle.record.specs.Checked.{checked, Readable, Refuses, Sorted, refused, read, sorted, refused-checked, readable-checked}
+use Rattle.record.specs.Read.{kindOf}
+use Rattle.record.specs.Checked.{Readable, Refuses, checked-has, refused-checked, readable-checked}
 use Rattle.record.specs.declared.Refusal.{Refusal}
-use Rattle.record.specs.declared.Refusal.the-variants.{ShortOutput, PositionOutside, SamePosition}
-use Rattle.drawing.specs.Drawing.{roomAt}
-use Rattle.drawing.specs.Relation.{relationOf}
-use Rattle.drawing.specs.Touch.{Touch, dec-touch}
-use Rattle.answers.specs.Answer.{Short, dec-short, recordAnswer, Outside, dec-outside, questionAnswer}
+use Rattle.record.specs.declared.Refusal.the-variants.{ShortOutput}
+use Rattle.answers.specs.Answer.{Short, dec-short, recordAnswer}
 use Rattle.answers.specs.declared.RecordAnswer.{RecordAnswer}
 use Rattle.answers.specs.declared.RecordAnswer.the-variants.{Read, Refused}
-use Rattle.answers.specs.declared.QuestionAnswer.{QuestionAnswer}
-use Rattle.answers.specs.declared.QuestionAnswer.the-variants as question
 
--- what a chain of checks gives, where it is known for each refusal and for what follows
-checked-has : {A : Type 0} (P : A → Type 0) (refuse : Refusal → A) (bytes : List ℕ) (good : A) → ((refusal : Refusal) → Refuses bytes refusal → P (refuse refusal)) → (Readable bytes → P good)
-    → P (checked refuse bytes good)
-checked-has P refuse bytes good if-refused if-read = go (sorted bytes)
-  where
-    go : Sorted bytes → P (checked refuse bytes good)
-    go (refused {refusal} cause) = subst P (refused-checked refuse bytes good cause) (if-refused refusal cause)
-    go (read all) = subst P (readable-checked refuse bytes good all) (if-read all)
-
--- ---- Record in
 -- an answer with its cause, and without the causes that the order names before it
 pub data RecordSays (bytes : List ℕ) (labels left bottom right top : ℕ) : RecordAnswer → Type 0 where
   refused-record : {refusal : Refusal} → Refuses bytes refusal → RecordSays bytes labels left bottom right top (Refused refusal)
-  short : Readable bytes → Short (kindOf bytes) labels left bottom right top → RecordSays bytes labels left bottom right top (Refused ShortOutput)
-  written : Readable bytes → ¬ Short (kindOf bytes) labels left bottom right top → RecordSays bytes labels left bottom right top (Read (kindOf bytes))
+  short : Readable bytes → Short (kindOf bytes) labels left bottom right top
+      → RecordSays bytes labels left bottom right top (Refused ShortOutput)
+  written : Readable bytes → ¬ Short (kindOf bytes) labels left bottom right top
+      → RecordSays bytes labels left bottom right top (Read (kindOf bytes))
 
 module _ (bytes : List ℕ) (labels left bottom right top : ℕ) where
   abbrev n : ℕ
@@ -43,53 +26,19 @@ module _ (bytes : List ℕ) (labels left bottom right top : ℕ) where
 
   -- each answer has its cause
   pub demand1-record-cause : RecordSays bytes labels left bottom right top (recordAnswer bytes labels left bottom right top)
-  demand1-record-cause = checked-has (RecordSays bytes labels left bottom right top) Refused bytes _ (λ refusal cause. refused-record cause) (go (dec-short n labels left bottom right top))
+  demand1-record-cause =
+      checked-has (RecordSays bytes labels left bottom right top) Refused bytes _ (λ refusal cause. refused-record cause)
+      (go (dec-short n labels left bottom right top))
     where
-      go : (d : Dec (Short n labels left bottom right top)) → Readable bytes → RecordSays bytes labels left bottom right top (ite d (Refused ShortOutput) (Read n))
+      go : (d : Dec (Short n labels left bottom right top)) → Readable bytes
+          → RecordSays bytes labels left bottom right top (ite d (Refused ShortOutput) (Read n))
       go (yes s) all = short all s
       go (no s) all = written all s
 
   -- and an answer with its cause is the answer
-  pub demand1-record-answer : {answer : RecordAnswer} → RecordSays bytes labels left bottom right top answer → answer ≡ recordAnswer bytes labels left bottom right top
+  pub demand1-record-answer : {answer : RecordAnswer} → RecordSays bytes labels left bottom right top answer
+      → answer ≡ recordAnswer bytes labels left bottom right top
   demand1-record-answer (refused-record cause) = refused-checked Refused bytes _ cause
   demand1-record-answer (short all s) = sym (if-pos (dec-short n labels left bottom right top) s _ _) ∙ readable-checked Refused bytes _ all
-  demand1-record-answer (written all s) = sym (if-neg (dec-short n labels left bottom right top) s _ _) ∙ readable-checked Refused bytes _ all
-
--- ---- the question
--- how the room at position `first` stands to the one at `second` in the drawing of the record, and whether they touch
-abbrev pub Touching : (bytes : List ℕ) (first second : ℕ) → Type 0
-Touching bytes first second = let f = labelAt (labelsOf bytes) in Touch (roomAt f (kindOf bytes) first) (roomAt f (kindOf bytes) second)
-
-pub data QuestionSays (bytes : List ℕ) (first second : ℕ) : QuestionAnswer → Type 0 where
-  refused-record : {refusal : Refusal} → Refuses bytes refusal → QuestionSays bytes first second (question.Refused refusal)
-  outside : Readable bytes → Outside first (kindOf bytes) ⊎ Outside second (kindOf bytes) → QuestionSays bytes first second (question.Refused PositionOutside)
-  same : Readable bytes → ¬ (Outside first (kindOf bytes) ⊎ Outside second (kindOf bytes)) → first ≡ second → QuestionSays bytes first second (question.Refused SamePosition)
-  related : {touch : Bool} → Readable bytes → ¬ (Outside first (kindOf bytes) ⊎ Outside second (kindOf bytes)) → first ≢ second → Tells touch (Touching bytes first second)
-      → QuestionSays bytes first second (question.Related (relationOf (labelAt (labelsOf bytes)) first second) touch)
-
-module _ (bytes : List ℕ) (first second : ℕ) where
-  abbrev f : ℕ → ℕ
-  f = labelAt (labelsOf bytes)
-
-  abbrev touching : Dec (Touching bytes first second)
-  touching = dec-touch (roomAt f (kindOf bytes) first) (roomAt f (kindOf bytes) second)
-
-  -- each answer has its cause
-  pub demand1-question-cause : QuestionSays bytes first second (questionAnswer bytes first second)
-  demand1-question-cause = checked-has (QuestionSays bytes first second) question.Refused bytes _ (λ refusal cause. refused-record cause) (go (dec-outside first second (kindOf bytes)) (ℕ-discrete first second))
-    where
-      go : (d : Dec (Outside first (kindOf bytes) ⊎ Outside second (kindOf bytes))) (e : Dec (first ≡ second)) → Readable bytes
-          → QuestionSays bytes first second (ite d (question.Refused PositionOutside) (ite e (question.Refused SamePosition) (question.Related (relationOf f first second) (holds touching))))
-      go (yes o) e all = outside all o
-      go (no o) (yes e) all = same all o e
-      go (no o) (no e) all = related all o e (holds-tells touching)
-
-  -- and an answer with its cause is the answer
-  pub demand1-question-answer : {answer : QuestionAnswer} → QuestionSays bytes first second answer → answer ≡ questionAnswer bytes first second
-  demand1-question-answer (refused-record cause) = refused-checked question.Refused bytes _ cause
-  demand1-question-answer (outside all o) = sym (if-pos (dec-outside first second (kindOf bytes)) o _ _) ∙ readable-checked question.Refused bytes _ all
-  demand1-question-answer (same all o e) =
-      sym (if-neg (dec-outside first second (kindOf bytes)) o _ _ ∙ if-pos (ℕ-discrete first second) e _ _) ∙ readable-checked question.Refused bytes _ all
-  demand1-question-answer (related {touch} all o e t) =
-      (λ i. question.Related (relationOf f first second) (sym (tells-holds touching touch t) i))
-      ∙ sym (if-neg (dec-outside first second (kindOf bytes)) o _ _ ∙ if-neg (ℕ-discrete first second) e _ _) ∙ readable-checked question.Refused bytes _ all
+  demand1-record-answer (written all s) =
+      sym (if-neg (dec-short n labels left bottom right top) s _ _) ∙ readable-checked Refused bytes _ all

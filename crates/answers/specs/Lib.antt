@@ -1,3 +1,5 @@
--- Record in and the question.
+-- Record in.
 pub mod Answer
 pub mod Demand1
+-- What reading a record leaves is its drawing
+pub mod Drawn

@@ -12,7 +12,8 @@ use Rattle.bits.specs.Bit.{bitAt, Bytes}
 unfoldable pub bitOfWord : ℕ → ℕ → Bool
 bitOfWord word i = eqb (word / 2 ^ (15 - i) % 2) 1
 
--- how many of a word's bits are in use, where the lowest one that is needed is worth 2 ^ lowest: those of both its bytes, or of the high one
+-- how many of a word's bits are in use, where the lowest one that is needed is worth 2 ^ lowest: those of both its bytes, or of the
+-- high one
 unfoldable pub reach : ℕ → ℕ
 reach lowest = cond (ltb lowest 8) 16 8
 

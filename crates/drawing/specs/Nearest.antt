@@ -1,5 +1,5 @@
--- What the drawing looks for is the nearest position that has a property, looking down or up from a position. The drawing's property is a smaller
--- or a larger label. Here it is any: looking down serves left and bottom, looking up serves right and top.
+-- What the drawing looks for is the nearest position that has a property, looking down or up from a position. The drawing's
+-- property is a smaller or a larger label. Here it is any: looking down serves left and bottom, looking up serves right and top.
 use mathlib.Core.Path.{_≡_, subst}
 use mathlib.Core.Logic.{_⊎_, inl, inr}
 use Prim.Native.Nat.{ℕ, suc, _-_, _≤_}
@@ -59,7 +59,8 @@ module _ (P : ℕ → Type 0) (d : (j : ℕ) → Dec (P j)) (n i : ℕ) (from : 
   unfolding firstLater
   first-nearest = go (first P d (suc i) (suc n))
     where
-      go : (r : First P (suc i) (suc n) ⊎ Each (λ j. ¬ P j) (suc i) (suc n)) → Nearest up P n i (suc (elim r [ inl r ↦ r .at - 1 | inr none ↦ n ]))
+      go : (r : First P (suc i) (suc n) ⊎ Each (λ j. ¬ P j) (suc i) (suc n))
+          → Nearest up P n i (suc (elim r [ inl r ↦ r .at - 1 | inr none ↦ n ]))
       go (inl r) = record {
         past = omega arith;
         within = omega arith;

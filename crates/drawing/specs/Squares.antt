@@ -20,7 +20,8 @@ pub record Covers (room : Room) (x y : ℕ) : Type 0 where
   pub top : y < room .top
 
 -- ---- columns and rows alike
--- an order of the positions by their labels: for columns, R a b says that the label at a is smaller than the one at b; for rows, that it is larger
+-- an order of the positions by their labels: for columns, R a b says that the label at a is smaller than the one at b; for rows,
+-- that it is larger
 record Ordered (R : ℕ → ℕ → Type 0) : Type 0 where
   dec : (a b : ℕ) → Dec (R a b)
   total : (a b : ℕ) → (¬ R a b) ⊎ (¬ R b a)

@@ -1,4 +1,5 @@
--- The grid drawing is a floorplan: "The n rooms of a floorplan fill the outline, share no unit square, and no point is a corner of four rooms."
+-- The grid drawing is a floorplan: "The n rooms of a floorplan fill the outline, share no unit square, and no point is a corner of
+-- four rooms."
 use mathlib.Core.Path.{_≡_, sym, _∙_}
 use mathlib.Core.Logic.{_≢_}
 use Prim.Native.Nat.{ℕ, _≤_, _<_}
@@ -11,8 +12,8 @@ use Rattle.drawing.specs.Squares.{Covers, covers-own, room-inside, owner
 abbrev pub Different : (a b c d : ℕ) → Type 0
 Different a b c d = (a ≢ b) × (a ≢ c) × (a ≢ d) × (b ≢ c) × (b ≢ d) × (c ≢ d)
 
--- the rooms of four different positions meet at the point (x, y): one has its lower-left corner there, one its lower-right, one its upper-left,
--- one its upper-right
+-- the rooms of four different positions meet at the point (x, y): one has its lower-left corner there, one its lower-right, one its
+-- upper-left, one its upper-right
 pub record FourMeet (room : ℕ → Room) (n x y : ℕ) : Type 0 where
   pub lower-left : SomePosition (λ i. (room i .left ≡ x) × (room i .bottom ≡ y)) n
   pub lower-right : SomePosition (λ i. (room i .right ≡ x) × (room i .bottom ≡ y)) n

@@ -1,4 +1,5 @@
--- The four sides of a room, read off the walk along the triples with positions alone: forward it holds left and bottom of each position, backward right and top.
+-- The four sides of a room, read off the walk along the triples with positions alone: forward it holds left and bottom of each
+-- position, backward right and top.
 use mathlib.Core.Path.{_≡_, sym}
 use Prim.Native.Nat.{ℕ, zero, suc, _-_, _≤_, _<_}
 use native.Mathlib.Omega.{arith}
@@ -29,7 +30,8 @@ module _ (t : ℕ → Triple) (m : ℕ) (accepted : Accepted t (suc m)) where
       record { past = omega (arith, e .within); within = omega (arith, e .within); has = λ c d. e .past c .less; clear = λ j c d p. e .later j d (omega arith) record { less = p } }
 
   -- backward: looking up
-  entered-nearest : (way : Way) (i : ℕ) → 1 ≤ i → i ≤ n → Nearest up (λ j. Less way (f i) (f j)) n i (suc (enteredBut t n (n - i) .current way))
+  entered-nearest : (way : Way) (i : ℕ) → 1 ≤ i → i ≤ n
+      → Nearest up (λ j. Less way (f i) (f j)) n i (suc (enteredBut t n (n - i) .current way))
   entered-nearest way zero a b = absurd (omega arith)
   entered-nearest way (suc k) a b =
       let e = label-entered t m accepted k (omega arith) way in

@@ -1,5 +1,6 @@
--- How many numbers of a range have a property; an injection of a range into itself is onto; and ranks: in a strict total order on the numbers
--- below n, the counts of what stands below each number are the numbers below n, each once, and a map that keeps the order keeps them.
+-- How many numbers of a range have a property; an injection of a range into itself is onto; and ranks: in a strict total order on
+-- the numbers below n, the counts of what stands below each number are the numbers below n, each once, and a map that keeps the
+-- order keeps them.
 use mathlib.Core.Logic.{_≢_, _⊎_, inl, inr}
 use mathlib.Core.Path.{_≡_, refl, ap}
 use Prim.Native.Nat.{ℕ, zero, suc, _+_, _-_, _≤_, _<_, min}

@@ -1,4 +1,5 @@
--- A list whose first n places are filled with f 0 to f (n - 1), the rest as it was; and a loop that fills a list, one store a turn, from the front or from the back.
+-- A list whose first n places are filled with f 0 to f (n - 1), the rest as it was; and a loop that fills a list, one store a turn,
+-- from the front or from the back.
 use mathlib.Core.Path.{_≡_, refl, sym, ap, _∙_}
 use mathlib.Core.Logic.{_⊎_, inl, inr}
 use mathlib.Core.List.{List, [], _∷_, _++_}
@@ -23,7 +24,8 @@ filling-none f a before = record { size = refl; done = λ k h l. absurd (omega a
 
 -- one more place, at either end of those that are filled
 module _ {f : ℕ → ℕ} {before now : List ℕ} where
-  pub filling-up : {a b : ℕ} (v : ℕ) → Filling f a b before now → a ≤ b → b < length before → v ≡ f b → Filling f a (b + 1) before (set now b v)
+  pub filling-up : {a b : ℕ} (v : ℕ) → Filling f a b before now → a ≤ b → b < length before → v ≡ f b
+      → Filling f a (b + 1) before (set now b v)
   filling-up {a} {b} v k h room e = record {
     size = length-set now b v ∙ k .size;
     done = λ i l m. elim (eq-or-ne i b) [
@@ -41,7 +43,8 @@ module _ {f : ℕ → ℕ} {before now : List ℕ} where
       outside i (inl l) = inl l
       outside i (inr l) = inr (omega arith)
 
-  pub filling-down : {a b : ℕ} (v : ℕ) → Filling f (suc a) b before now → a < b → a < length before → v ≡ f a → Filling f a b before (set now a v)
+  pub filling-down : {a b : ℕ} (v : ℕ) → Filling f (suc a) b before now → a < b → a < length before → v ≡ f a
+      → Filling f a b before (set now a v)
   filling-down {a} {b} v k h room e = record {
     size = length-set now a v ∙ k .size;
     done = λ i l m. elim (eq-or-ne i a) [
@@ -64,7 +67,8 @@ pub filling-end : (f : ℕ → ℕ) (n : ℕ) {before now : List ℕ} → Fillin
 unfolding table
 filling-end f n {before} {now} k h = go f n before now (k .size) (λ i. k .done i (omega arith)) (λ i l. k .kept i (inr l)) h
   where
-    go : (f : ℕ → ℕ) (n : ℕ) (before now : List ℕ) → length now ≡ length before → ((i : ℕ) → i < n → getD now i 0 ≡ f i) → ((i : ℕ) → n ≤ i → getD now i 0 ≡ getD before i 0) → n ≤ length before
+    go : (f : ℕ → ℕ) (n : ℕ) (before now : List ℕ) → length now ≡ length before → ((i : ℕ) → i < n → getD now i 0 ≡ f i)
+        → ((i : ℕ) → n ≤ i → getD now i 0 ≡ getD before i 0) → n ≤ length before
         → now ≡ filled f n before
     go f zero [] [] e d l h = refl
     go f zero [] (y ∷ now) e d l h = absurd (omega arith)

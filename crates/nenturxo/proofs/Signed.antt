@@ -1,15 +1,16 @@
 -- Numbers that fit 32 bits with a sign.
-use mathlib.Core.Path.{_≡_}
+use mathlib.Core.Path.{_≡_, ap, _∙_}
 use Prim.Native.Nat.{ℕ, zero, suc, _^_, _≤_, _<_}
 use native.Mathlib.Omega.{arith}
 use borrow.Author.Tests.{lt-ltb}
-use lib.IntN.{pos, negℤ, _-ℤ_, +ℤ-idl}
+use lib.IntN.{ℤ, pos, negℤ, _-ℤ_, +ℤ-idl}
 use Rattle.record.specs.Refusal.{numberOf}
 use Rattle.record.specs.declared.Refusal.{Refusal}
 use Rattle.record.specs.declared.Refusal.the-variants.{Count, RoomSize, Overlap, Uncovered, FourMeet, LabelOutside, LabelTwice, BarredPattern, NoKind, ShortBody, BytesAfter, MissingRun, SeveralRuns, SpareBit, ShortOutput, PositionOutside, SamePosition}
 use Rattle.nenturxo.specs.Code.{refusalCode}
 use mir.Syntax.{w32}
-use mir.Val.{SFits, toZ}
+use mir.Val.{SFits, toZ, ofZ}
+use mir.ValLaws.{toZ-ofZ}
 
 pub small-is : (n : ℕ) → n < 65536 → toZ w32 n ≡ pos n
 small-is n h = let l : n < 2 ^ 31 = omega arith in rw (lt-ltb n (2 ^ 31) l)
@@ -47,3 +48,7 @@ number-small SamePosition = omega arith
 
 pub refused-fits : (refusal : Refusal) → SFits w32 (refusalCode refusal)
 refused-fits refusal = negated-fits (numberOf refusal) (omega (arith, number-small refusal))
+
+-- a refusal's number, stored in 32 bits and read again
+pub refused-is : (refusal : Refusal) {number : ℤ} → number ≡ refusalCode refusal → toZ w32 (ofZ w32 number) ≡ refusalCode refusal
+refused-is refusal e = ap (λ (z : ℤ). toZ w32 (ofZ w32 z)) e ∙ toZ-ofZ w32 (refusalCode refusal) (refused-fits refusal)

@@ -1,5 +1,6 @@
 -- The number that a call of the C interface returns: the result, which is at least 0, or the refusal's number negated.
 use mathlib.Core.Bool.{Bool, true, false}
+use mathlib.Core.Path.{_≡_}
 use Prim.Native.Nat.{ℕ, _+_}
 use lib.IntN.{ℤ, pos, negℤ}
 use Rattle.record.specs.Refusal.{numberOf}
@@ -10,10 +11,16 @@ use Rattle.drawing.specs.declared.Relation.{Relation}
 use Rattle.drawing.specs.declared.Relation.the-variants.{Left, Right, Above, Below}
 use Rattle.answers.specs.declared.RecordAnswer.{RecordAnswer}
 use Rattle.answers.specs.declared.RecordAnswer.the-variants as recordIn
-use Rattle.answers.specs.declared.QuestionAnswer.{QuestionAnswer}
-use Rattle.answers.specs.declared.QuestionAnswer.the-variants as question
+use Rattle.questions.specs.declared.QuestionAnswer.{QuestionAnswer}
+use Rattle.questions.specs.declared.QuestionAnswer.the-variants as question
 use Rattle.plans.specs.declared.RoomsAnswer.{RoomsAnswer}
 use Rattle.plans.specs.declared.RoomsAnswer.the-variants as roomsIn
+
+-- the number that a call returns is that of its answer, and with this answer it did what is said of it
+pub record Coded {A : Type 0} (code : A → ℤ) (number : ℤ) (Did : A → Type 0) : Type 0 where
+  pub answer : A
+  pub numbered : number ≡ code answer
+  pub did : Did answer
 
 abbrev pub refusalCode : Refusal → ℤ
 refusalCode refusal = negℤ (pos (numberOf refusal))

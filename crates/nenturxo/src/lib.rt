@@ -2,19 +2,19 @@
 ghost use mathlib.Core.Path.{_≡_};
 ghost use Prim.Native.Nat.{_≤_};
 ghost use lib.ListN.{length};
-ghost use Rattle.record.specs.Answer.{labelsAnswer, recordAfter};
-ghost use Rattle.record.specs.Read.{labelsOf};
-ghost use Rattle.drawing.specs.Corners.{leftsOf, bottomsOf, rightsOf, topsOf};
+ghost use Rattle.record.specs.Answer.{LabelsIn};
 ghost use Rattle.rooms.specs.LabelList.{recordOfRooms};
-ghost use Rattle.answers.specs.Answer.{recordAnswer, written, questionAnswer};
+ghost use Rattle.answers.specs.Answer.{slices, RecordIn};
+ghost use Rattle.questions.specs.Answer.{questionAnswer};
 ghost use Rattle.plans.specs.Answer.{roomsAnswer, labelsOfRooms, positionsOfRooms, written as roomsWritten};
-ghost use Rattle.nenturxo.specs.Code.{refusalCode, roomsCode, labelsCode, recordCode, relationNumber, relatedNumber, questionCode};
+ghost use Rattle.nenturxo.specs.Code.{Coded, refusalCode, roomsCode, labelsCode, recordCode};
+ghost use Rattle.nenturxo.specs.Code.{relationNumber, relatedNumber, questionCode};
 ghost use Rattle.nenturxo.specs.Size.{AtMost97};
-use answers::QuestionAnswer;
 use answers::RecordAnswer;
 use drawing::Relation;
 use drawing::Room;
 use plans::RoomsAnswer;
+use questions::QuestionAnswer;
 use record::LabelsAnswer;
 use record::Refusal;
 
@@ -57,7 +57,8 @@ pub extern "C" fn nenturxo_rooms_in(
 // Labels in: the record's length, written from the front of `record`, or the refusal's number negated, and nothing written.
 #[no_mangle]
 pub extern "C" fn nenturxo_labels_in(labels: &[u8], record: &mut [u8]) -> i32
-    ensures { λ r. ⌜ (r ≡ labelsCode (labelsAnswer (now (labels .entry)) (length (now («record» .entry))))) × (now («record» .exit) ≡ recordAfter (labelsAnswer (now (labels .entry)) (length (now («record» .entry)))) (now (labels .entry)) (now («record» .entry))) ⌝ }
+    ensures { λ r. ⌜ Coded labelsCode r
+        (λ answer. LabelsIn (now (labels .entry)) (now («record» .entry)) answer (now («record» .exit))) ⌝ }
 {
     match labels::labels_in(labels, record) {
         LabelsAnswer::Wrote(size) => size as i32,
@@ -65,7 +66,8 @@ pub extern "C" fn nenturxo_labels_in(labels: &[u8], record: &mut [u8]) -> i32
     }
 }
 
-// Record in: the number of rooms, their labels and corners by position from the front of the slices, or the refusal's number negated, and nothing written.
+// Record in: the number of rooms, their labels and corners by position from the front of the slices, or the refusal's number
+// negated, and nothing written.
 #[no_mangle]
 pub extern "C" fn nenturxo_record_in(
     record: &[u8],
@@ -75,12 +77,9 @@ pub extern "C" fn nenturxo_record_in(
     right: &mut [u16],
     top: &mut [u16],
 ) -> i32
-    ensures answer { λ r. ⌜ r ≡ recordCode (recordAnswer (now («record» .entry)) (length (now (labels .entry))) (length (now (left .entry))) (length (now (bottom .entry))) (length (now (right .entry))) (length (now (top .entry)))) ⌝ }
-    ensures list { λ r. ⌜ now (labels .exit) ≡ written (recordAnswer (now («record» .entry)) (length (now (labels .entry))) (length (now (left .entry))) (length (now (bottom .entry))) (length (now (right .entry))) (length (now (top .entry)))) (labelsOf (now («record» .entry))) (now (labels .entry)) ⌝ }
-    ensures lefts { λ r. ⌜ now (left .exit) ≡ written (recordAnswer (now («record» .entry)) (length (now (labels .entry))) (length (now (left .entry))) (length (now (bottom .entry))) (length (now (right .entry))) (length (now (top .entry)))) (leftsOf (labelsOf (now («record» .entry)))) (now (left .entry)) ⌝ }
-    ensures bottoms { λ r. ⌜ now (bottom .exit) ≡ written (recordAnswer (now («record» .entry)) (length (now (labels .entry))) (length (now (left .entry))) (length (now (bottom .entry))) (length (now (right .entry))) (length (now (top .entry)))) (bottomsOf (labelsOf (now («record» .entry)))) (now (bottom .entry)) ⌝ }
-    ensures rights { λ r. ⌜ now (right .exit) ≡ written (recordAnswer (now («record» .entry)) (length (now (labels .entry))) (length (now (left .entry))) (length (now (bottom .entry))) (length (now (right .entry))) (length (now (top .entry)))) (rightsOf (labelsOf (now («record» .entry)))) (now (right .entry)) ⌝ }
-    ensures tops { λ r. ⌜ now (top .exit) ≡ written (recordAnswer (now («record» .entry)) (length (now (labels .entry))) (length (now (left .entry))) (length (now (bottom .entry))) (length (now (right .entry))) (length (now (top .entry)))) (topsOf (labelsOf (now («record» .entry)))) (now (top .entry)) ⌝ }
+    ensures { λ r. ⌜ Coded recordCode r (λ answer. RecordIn (now («record» .entry))
+        (slices (now (labels .entry)) (now (left .entry)) (now (bottom .entry)) (now (right .entry)) (now (top .entry)))
+        answer (slices (now (labels .exit)) (now (left .exit)) (now (bottom .exit)) (now (right .exit)) (now (top .exit)))) ⌝ }
 {
     match answers::record_in(record, labels, left, bottom, right, top) {
         RecordAnswer::Read(n) => n as i32,
@@ -116,7 +115,7 @@ fn related_number(relation: Relation, touch: bool) -> u8
 pub extern "C" fn nenturxo_question(record: &[u8], first: u8, second: u8) -> i32
     ensures { λ r. ⌜ r ≡ questionCode (questionAnswer (now («record» .entry)) first second) ⌝ }
 {
-    match answers::question(record, first, second) {
+    match questions::question(record, first, second) {
         QuestionAnswer::Related(relation, touch) => related_number(relation, touch) as i32,
         QuestionAnswer::Refused(refusal) => refused(refusal),
     }

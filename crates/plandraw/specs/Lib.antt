@@ -1,5 +1,2 @@
--- What the program prints.
-pub mod Picture
+-- What the program prints for some records.
 pub mod Worked
--- What the inner functions ask.
-pub mod Within

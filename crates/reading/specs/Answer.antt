@@ -1,4 +1,5 @@
--- What reading a record answers and leaves: the first refusal of "9, 10, 11, 14, 12, 13" whose cause the record has, else how many labels it gives, and what is noted of each.
+-- What reading a record answers and leaves: the first refusal of "9, 10, 11, 14, 12, 13" whose cause the record has, else how many
+-- labels it gives, and what is noted of each.
 use mathlib.Core.List.{List}
 use mathlib.Core.Path.{_≡_}
 use Prim.Native.Nat.{ℕ, _≤_, _<_}
@@ -7,7 +8,8 @@ use Rattle.record.specs.Way.{up, down}
 use Rattle.record.specs.Record.{tripleIn}
 use Rattle.record.specs.Read.{kindOf, bodyOf}
 use Rattle.record.specs.Checked.{checked, Readable}
-use Rattle.reading.specs.Passes.{Unpacked, Lowers, Starts, Written}
+use Rattle.steps.specs.Passes.{Unpacked, Lowers, Starts}
+use Rattle.backward.specs.Written.{Written}
 use Rattle.reading.specs.declared.Reading.{Reading}
 use Rattle.reading.specs.declared.Reading.the-variants.{Read, Refused}
 

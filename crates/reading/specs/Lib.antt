@@ -1,4 +1,3 @@
 -- Reading a record.
-pub mod Turn
-pub mod Passes
 pub mod Answer
+pub mod SameRefusal

@@ -1,6 +1,7 @@
 -- What Labels in answers, and what the record slice then holds. "Order: labels 1, 6, 7, 8, 15."
 use mathlib.Core.Logic.{ite}
 use mathlib.Core.List.{List, _++_}
+use mathlib.Core.Path.{_≡_}
 use Prim.Native.Nat.{ℕ}
 use native.Mathlib.Decide.{decLt}
 use lib.ListN.{length, drop}
@@ -25,3 +26,8 @@ labelsAnswer labels capacity =
 abbrev pub recordAfter : LabelsAnswer → (labels before : List ℕ) → List ℕ
 recordAfter (Wrote size) labels before = recordOf labels ++ drop size before
 recordAfter (Refused refusal) labels before = before
+
+-- what Labels in answers for these labels and a record slice that held `before`, and what the slice holds then
+pub record LabelsIn (labels before : List ℕ) (answer : LabelsAnswer) (after : List ℕ) : Type 0 where
+  pub answered : answer ≡ labelsAnswer labels (length before)
+  pub left : after ≡ recordAfter answer labels before

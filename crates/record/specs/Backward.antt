@@ -1,5 +1,5 @@
--- From triples to labels: an accepted sequence of triples is that of the list it is decoded to, which is Baxter, and of no other Baxter list.
--- The runs taken apart from the end have the sizes counted from the front, so each step forward leads back to them.
+-- From triples to labels: an accepted sequence of triples is that of the list it is decoded to, which is Baxter, and of no other
+-- Baxter list. The runs taken apart from the end have the sizes counted from the front, so each step forward leads back to them.
 use mathlib.Core.Path.{_≡_, refl, sym, ap, subst, subst₂, _∙_}
 use mathlib.Core.Logic.{_≢_, inl, inr}
 use mathlib.Core.Bool.{Bool, true, false}
@@ -83,7 +83,8 @@ abbrev Goes : Counts → Type 0
 Goes missing = ⊥
 Goes (counts p q) = Unit
 
-needed : (t : Triple) (below above : List ℕ) → Positive below → Positive above → Goes (step t (length below) (length above)) → Has (bitsOf t (turnOf t)) (elim (turnOf t) [ up ↦ above | down ↦ below ])
+needed : (t : Triple) (below above : List ℕ) → Positive below → Positive above → Goes (step t (length below) (length above))
+    → Has (bitsOf t (turnOf t)) (elim (turnOf t) [ up ↦ above | down ↦ below ])
 unfolding step
 needed (triple false second false) below above p q g = tt
 needed (triple true second false) below (s ∷ above) p q g = q .0
@@ -94,7 +95,8 @@ needed (triple first true true) (s ∷ below) above p q g = p .0
 needed (triple true true true) [] above p q g = g
 needed (triple false true true) [] above p q g = g
 
-needed-in : (t : Triple) (q : Sizes) → Sound q → Goes (step t (length (q .others down)) (length (q .others up))) → Has (bitsOf t (turnOf t)) (q .others (turnOf t))
+needed-in : (t : Triple) (q : Sizes) → Sound q → Goes (step t (length (q .others down)) (length (q .others up)))
+    → Has (bitsOf t (turnOf t)) (q .others (turnOf t))
 needed-in (triple first second false) q s g = needed (triple first second false) (q .others down) (q .others up) (s .positive down) (s .positive up) g
 needed-in (triple first second true) q s g = needed (triple first second true) (q .others down) (q .others up) (s .positive down) (s .positive up) g
 
@@ -102,7 +104,8 @@ needed-in (triple first second true) q s g = needed (triple first second true) (
 abbrev sizeCounts : Sizes → Counts
 sizeCounts q = counts (length (q .others down)) (length (q .others up))
 
-step-sizes : (t : Triple) (q : Sizes) → Has (bitsOf t (turnOf t)) (q .others (turnOf t)) → andThen (sizeCounts q) (step t) ≡ sizeCounts (growSizes t q)
+step-sizes : (t : Triple) (q : Sizes) → Has (bitsOf t (turnOf t)) (q .others (turnOf t))
+    → andThen (sizeCounts q) (step t) ≡ sizeCounts (growSizes t q)
 unfolding growSizes rest-of
 step-sizes t q has = go t has
   where
@@ -244,11 +247,13 @@ module _ (t : ℕ → Triple) where
     unfolding runsAt
     back-run k h = let u = t (suc (suc k)) in go (turnOf u) (step-at k h .joins (other (turnOf u)))
       where
-        first : {way : Way} {v end : ℕ} {b : Bool} {r : Run} {rs rest : List Run} → Joined way v b (r ∷ rs) end rest → 1 ≤ bit b + length rest
+        first : {way : Way} {v end : ℕ} {b : Bool} {r : Run} {rs rest : List Run} → Joined way v b (r ∷ rs) end rest
+            → 1 ≤ bit b + length rest
         first (apart a) = omega arith
         first (joined b) = omega arith
 
-        go : (turn : Way) {v end : ℕ} {b : Bool} {rest : List Run} → Joined (other turn) v b (ahead turn (runsAt k) (other turn)) end rest → 1 ≤ bit b + length rest
+        go : (turn : Way) {v end : ℕ} {b : Bool} {rest : List Run}
+            → Joined (other turn) v b (ahead turn (runsAt k) (other turn)) end rest → 1 ≤ bit b + length rest
         go up j = first j
         go down j = first j
 
@@ -272,7 +277,8 @@ module _ (t : ℕ → Triple) where
     stage-at (suc k) h = step-stage f k (stage-at k (omega arith)) (step-at k h)
 
     -- what the label of position k + 2 meets
-    pub front-at : (k : ℕ) → suc k ≤ m → (way : Way) → Front (Seen f (suc k)) way (f (suc (suc k))) (ahead (turnOf (t (suc (suc k)))) (runsAt k) way)
+    pub front-at : (k : ℕ) → suc k ≤ m → (way : Way)
+        → Front (Seen f (suc k)) way (f (suc (suc k))) (ahead (turnOf (t (suc (suc k)))) (runsAt k) way)
     front-at k h way = fronts (stage-at k (omega arith) .faithful) (turnOf (t (suc (suc k)))) (f (suc (suc k))) (step-at k h .past) (step-at k h .free) way
 
     fresh : (k : ℕ) → suc k ≤ m → ¬ Seen f (suc k) (f (suc (suc k)))

@@ -28,7 +28,9 @@ dec-twice labels = dec-some _ (λ j. dec-some _ (λ i. ℕ-discrete (labelAt lab
 
 unfoldable pub dec-barred : (f : ℕ → ℕ) (n : ℕ) → Dec (Barred f n)
 unfolding dec-some dec-⊎ dec-×₃ ℕ-discrete decLt
-dec-barred f n = dec-some _ (λ l. dec-some _ (λ k. dec-some _ (λ j. dec-some _ (λ i. dec-⊎ (first (f i) (f j) (f k) (f l)) (second (f i) (f j) (f k) (f l))) 1 j) 1 k) 1 l) 1 (suc n)
+dec-barred f n =
+    dec-some _ (λ l. dec-some _ (λ k. dec-some _ (λ j. dec-some _ (λ i.
+    dec-⊎ (first (f i) (f j) (f k) (f l)) (second (f i) (f j) (f k) (f l))) 1 j) 1 k) 1 l) 1 (suc n)
   where
     first : (a b c d : ℕ) → Dec (BarredFirst a b c d)
     first a b c d = dec-×₃ (decLt c (a + 1)) (ℕ-discrete (a + 1) d) (decLt d b)

@@ -1,5 +1,6 @@
--- Decoding triples along the table. Forward, only the number of labels in each run is known: a new label makes the run that it is joined to longer,
--- or a run of its own. At the end all labels, 1 to n, are one run; backward, the newest label is taken out of the current run again, and its place there is its label.
+-- Decoding triples along the table. Forward, only the number of labels in each run is known: a new label makes the run that it is
+-- joined to longer, or a run of its own. At the end all labels, 1 to n, are one run; backward, the newest label is taken out of the
+-- current run again, and its place there is its label.
 use mathlib.Core.Bool.{Bool, true, false}
 use mathlib.Core.List.{List, [], _∷_}
 use Prim.Native.Nat.{ℕ, zero, suc, _+_, _-_}
@@ -73,7 +74,8 @@ abbrev pub otherRuns : List Run → List Run
 otherRuns [] = []
 otherRuns (r ∷ rs) = rs
 
--- the runs before a label was put on the side `turn`: onward it met the runs there, looking back the run that was current, and the runs behind it
+-- the runs before a label was put on the side `turn`: onward it met the runs there, looking back the run that was current, and the
+-- runs behind it
 abbrev pub split : (turn : Way) → (onward back : List Run) → Runs
 split up onward back = record { edge = λ way. elim way [ up ↦ firstRun back .near | down ↦ firstRun back .far ]; stack = λ way. elim way [ up ↦ onward | down ↦ otherRuns back ] }
 split down onward back = record { edge = λ way. elim way [ up ↦ firstRun back .far | down ↦ firstRun back .near ]; stack = λ way. elim way [ up ↦ otherRuns back | down ↦ onward ] }

@@ -1,5 +1,5 @@
--- Demand 2 for label lists and triples: "a record gives the only Baxter permutation that has it"; "Every Baxter permutation of 1 to 255 labels is
--- accepted, given long enough output slices, and no other list is."
+-- Demand 2 for label lists and triples: "a record gives the only Baxter permutation that has it"; "Every Baxter permutation of 1 to
+-- 255 labels is accepted, given long enough output slices, and no other list is."
 use mathlib.Core.Path.{_≡_, refl, sym, ap, subst, _∙_}
 use mathlib.Core.Logic.{_≢_, inl, inr, _↔_}
 use mathlib.Core.List.{List}
@@ -99,7 +99,8 @@ record-triple labels (suc (suc k)) l h = triple-is-bits t ∙ (λ i. triple (bit
 
     bit : (r i : ℕ) → 3 * k + r ≡ i → r < 3 → tripleBit t r ≡ bitAt (pack (bodyBit (tripleAt (labelAt labels)) n) (bodyLength n)) i
     bit r i e l = sym (ap (bitAt (pack (bodyBit (tripleAt (labelAt labels)) n) (bodyLength n))) (sym e)
-        ∙ bitAt-pack (bodyBit (tripleAt (labelAt labels)) n) (bodyLength n) (3 * k + r) (omega arith) ∙ bit-in (tripleAt (labelAt labels)) n k r l (omega arith))
+        ∙ bitAt-pack (bodyBit (tripleAt (labelAt labels)) n) (bodyLength n) (3 * k + r) (omega arith)
+        ∙ bit-in (tripleAt (labelAt labels)) n k r l (omega arith))
 
 -- "The record, at most 97 bytes"
 pub record-length : (labels : List ℕ) → length (recordOf labels) ≡ 1 + bodyLength (length labels)
@@ -117,7 +118,9 @@ demand2-same-record labels others b c e = go (length labels) refl
     same-size = unfold recordOf in ap (λ (bytes : List ℕ). getD bytes 0 0) e
 
     has : HasTriples others (tripleAt (labelAt labels))
-    has i l h = record-triple others i l h ∙ ap (λ (bytes : List ℕ). tripleIn (drop 1 bytes) i) (sym e) ∙ sym (record-triple labels i l (omega (arith, same-size)))
+    has i l h =
+        record-triple others i l h ∙ ap (λ (bytes : List ℕ). tripleIn (drop 1 bytes) i) (sym e)
+        ∙ sym (record-triple labels i l (omega (arith, same-size)))
 
     go : (n : ℕ) → length labels ≡ n → labels ≡ others
     go zero h = ext-getD 0 labels others same-size (λ i l. absurd (omega arith))

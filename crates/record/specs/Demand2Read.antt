@@ -74,7 +74,8 @@ module _ (bytes : List ℕ) (all : Bytes bytes) (r : Readable bytes) where
 
   body-back : pack (bodyBit (tripleAt (labelAt (labelsOf bytes))) n) (bodyLength n) ≡ bodyOf bytes
   unfolding bodyBit
-  body-back = same-bits (pack bits (bodyLength n)) (bodyOf bytes) (bytes-pack bits (bodyLength n)) body-bytes (length-pack bits (bodyLength n) ∙ sym long)
+  body-back =
+      same-bits (pack bits (bodyLength n)) (bodyOf bytes) (bytes-pack bits (bodyLength n)) body-bytes (length-pack bits (bodyLength n) ∙ sym long)
       (λ i h. let l : i < 8 * bodyLength n = omega (arith, length-pack bits (bodyLength n)) in bitAt-pack bits (bodyLength n) i l ∙ same i l (ltb i (3 * n - 3)) refl)
     where
       bits : ℕ → Bool
@@ -84,7 +85,9 @@ module _ (bytes : List ℕ) (all : Bytes bytes) (r : Readable bytes) where
       same i h true e =
           ap (λ (x : Bool). x && tripleBit (tripleAt (labelAt (labelsOf bytes)) (suc (suc (i / 3)))) (i % 3)) e
           ∙ ap (λ (t : Triple). tripleBit t (i % 3)) (one .has (suc (suc (i / 3))) (omega arith) (omega (arith, one .size, ltb-true i (3 * n - 3) e))) ∙ triple-bit (i / 3) (i % 3) i (omega arith) (omega arith)
-      same i h false e = ap (λ (x : Bool). x && tripleBit (tripleAt (labelAt (labelsOf bytes)) (suc (suc (i / 3)))) (i % 3)) e ∙ sym (no-spare i (ltb-false i (3 * n - 3) e) h)
+      same i h false e =
+          ap (λ (x : Bool). x && tripleBit (tripleAt (labelAt (labelsOf bytes)) (suc (suc (i / 3)))) (i % 3)) e
+          ∙ sym (no-spare i (ltb-false i (3 * n - 3) e) h)
 
   split : bytes ≡ kindOf bytes ∷ bodyOf bytes
   split = go bytes some
@@ -99,7 +102,9 @@ module _ (bytes : List ℕ) (all : Bytes bytes) (r : Readable bytes) where
   demand2-read-only-list = record { size = one .size; baxter = one .baxter; back = back; only = only }
     where
       back : recordOf (labelsOf bytes) ≡ bytes
-      back = (λ i. one .size i ∷ pack (bodyBit (tripleAt (labelAt (labelsOf bytes))) (one .size i)) (bodyLength (one .size i))) ∙ ap (λ (body : List ℕ). n ∷ body) body-back ∙ sym split
+      back =
+          (λ i. one .size i ∷ pack (bodyBit (tripleAt (labelAt (labelsOf bytes))) (one .size i)) (bodyLength (one .size i)))
+          ∙ ap (λ (body : List ℕ). n ∷ body) body-back ∙ sym split
 
       only : (other : List ℕ) → Baxter other → recordOf other ≡ bytes → other ≡ labelsOf bytes
       only other b e = one .only other (ap kindOf e) b (λ i l h. record-triple other i l h ∙ ap (λ (bs : List ℕ). tripleIn (bodyOf bs) i) e)
@@ -127,10 +132,12 @@ module _ (labels : List ℕ) (some : 1 ≤ length labels) (b : Baxter labels) wh
   }
     where
       walked : endOf (recordOf labels) ≡ counts 0 0
-      walked = walk-same (tripleIn (bodyOf (recordOf labels))) (tripleAt (labelAt labels)) (length labels - 1) (λ i l h. sym (record-triple labels i l (omega arith))) ∙ demand2-record-accepted labels some b
+      walked =
+          walk-same (tripleIn (bodyOf (recordOf labels))) (tripleAt (labelAt labels)) (length labels - 1) (λ i l h. sym (record-triple labels i l (omega arith))) ∙ demand2-record-accepted labels some b
 
       spare : ¬ Some (λ i. bitAt (bodyOf (recordOf labels)) i ≡ true) (3 * length labels - 3) (8 * length (bodyOf (recordOf labels)))
-      spare (i, a, c, e) = clash (bitAt-pack (bodyBit (tripleAt (labelAt labels)) (length labels)) (bodyLength (length labels)) i (omega (arith, size-back)) ∙ past) e
+      spare (i, a, c, e) =
+          clash (bitAt-pack (bodyBit (tripleAt (labelAt labels)) (length labels)) (bodyLength (length labels)) i (omega (arith, size-back)) ∙ past) e
         where
           past : bodyBit (tripleAt (labelAt labels)) (length labels) i ≡ false
           past = rw (le-ltb i (3 * length labels - 3) a)

@@ -1,5 +1,6 @@
--- Backward along accepted triples: of the current run on either side, and so of its newest label, the walk holds the first later position whose label lies beyond, less 1.
--- A later label that does not lie beyond the run would lie in it, where all labels are seen already.
+-- Backward along accepted triples: of the current run on either side, and so of its newest label, the walk holds the first later
+-- position whose label lies beyond, less 1. A later label that does not lie beyond the run would lie in it, where all labels are
+-- seen already.
 use mathlib.Core.Path.{_≡_, sym, subst, subst₂}
 use mathlib.Core.Logic.{_≢_, _⊎_, inl, inr}
 use mathlib.Core.Bool.{Bool, true, false}
@@ -29,7 +30,8 @@ pub record Entry (way : Way) (f : ℕ → ℕ) (n m x p : ℕ) : Type 0 where
 -- each run has the first position beyond its far end
 data Entries (way : Way) (f : ℕ → ℕ) (n m : ℕ) : List Run → List ℕ → Type 0 where
   no-entry : Entries way f n m [] []
-  entry : {p : ℕ} {r : Run} {rs : List Run} {ps : List ℕ} → Entry way f n m (r .far) p → Entries way f n m rs ps → Entries way f n m (r ∷ rs) (p ∷ ps)
+  entry : {p : ℕ} {r : Run} {rs : List Run} {ps : List ℕ} → Entry way f n m (r .far) p → Entries way f n m rs ps
+      → Entries way f n m (r ∷ rs) (p ∷ ps)
 
 module _ (f : ℕ → ℕ) (n m : ℕ) {way : Way} where
   first-entry : {r : Run} {rs : List Run} {ps : List ℕ} → Entries way f n m (r ∷ rs) ps → Entry way f n m (r .far) (firstOf ps)
@@ -47,7 +49,8 @@ module _ (f : ℕ → ℕ) (n m : ℕ) {way : Way} where
       go q a b (inl s) = subst (λ (i : ℕ). ¬ Past way x (f i)) (sym s) h
       go q a b (inr s) = e .earlier q (omega arith) b
 
-  entries-kept : {x : ℕ} {rs : List Run} {ps : List ℕ} {S : ℕ → Type 0} → ¬ Past way x (f (suc m)) → Side S way x rs → Entries way f n (suc m) rs ps → Entries way f n m rs ps
+  entries-kept : {x : ℕ} {rs : List Run} {ps : List ℕ} {S : ℕ → Type 0} → ¬ Past way x (f (suc m)) → Side S way x rs
+      → Entries way f n (suc m) rs ps → Entries way f n m rs ps
   entries-kept h s no-entry = no-entry
   entries-kept h (more {r = r} k a s) (entry e es) = entry (entry-kept beyond e) (entries-kept beyond s es)
     where
@@ -55,7 +58,8 @@ module _ (f : ℕ → ℕ) (n m : ℕ) {way : Way} where
       beyond p = h (past-trans (far-past k) p)
 
   -- the runs that the label of position m + 1 met
-  met-entries : {S : ℕ → Type 0} {bit : Bool} {rs rest : List Run} {x p : ℕ} {ps : List ℕ} → Front S way (f (suc m)) rs → Joined way (f (suc m)) bit rs x rest
+  met-entries : {S : ℕ → Type 0} {bit : Bool} {rs rest : List Run} {x p : ℕ} {ps : List ℕ} → Front S way (f (suc m)) rs
+      → Joined way (f (suc m)) bit rs x rest
       → Entry way f n (suc m) x p → Entries way f n (suc m) rest ps → Entries way f n m rs (pushed bit p ps)
   met-entries (open-front h) none e no-entry = no-entry
   met-entries (run-front k s) (apart a) e (entry d es) = entry (entry-kept (past-not-back (far-past k)) d) (entries-kept (past-not-back (far-past k)) s es)
@@ -66,7 +70,8 @@ record AllEntered (f : ℕ → ℕ) (n m : ℕ) (z : Runs) (y : Entered) : Type 
   current : (way : Way) → Entry way f n m (z .edge way) (y .current way)
   others : (way : Way) → Entries way f n m (z .stack way) (y .others way)
 
-entered-before : (f : ℕ → ℕ) (n m : ℕ) (u : Triple) (y : Entered) {p : ℕ} {z : Runs} → ((way : Way) → Entries way f n m (ahead (turnOf u) z way) (enteredMet u y way))
+entered-before : (f : ℕ → ℕ) (n m : ℕ) (u : Triple) (y : Entered) {p : ℕ} {z : Runs} → ((way : Way)
+    → Entries way f n m (ahead (turnOf u) z way) (enteredMet u y way))
     → Entry (turnOf u) f n m (z .edge (turnOf u)) p → AllEntered f n m z (enteredBefore u p y)
 unfolding enteredBefore
 entered-before f n m (triple first second false) y met onward = record {
@@ -79,7 +84,8 @@ entered-before f n m (triple first second true) y met onward = record {
 }
 
 -- what is first beyond the current run is first beyond its newest label
-label-entry : (f : ℕ → ℕ) (n k : ℕ) {way : Way} {z : Runs} {p : ℕ} → Stage f k z → ((q : ℕ) → suc k < q → q ≤ n → ¬ Seen f (suc k) (f q)) → Entry way f n (suc k) (z .edge way) p → Entry way f n (suc k) (f (suc k)) p
+label-entry : (f : ℕ → ℕ) (n k : ℕ) {way : Way} {z : Runs} {p : ℕ} → Stage f k z → ((q : ℕ) → suc k < q → q ≤ n
+    → ¬ Seen f (suc k) (f q)) → Entry way f n (suc k) (z .edge way) p → Entry way f n (suc k) (f (suc k)) p
 label-entry f n k {way} {z} stage fresh e = record {
   from = e .from;
   within = e .within;
@@ -116,7 +122,8 @@ module _ (t : ℕ → Triple) (m : ℕ) (accepted : Accepted t (suc m)) where
       subst₂ (λ (i p : ℕ). EnteredAt k (enteredBefore (t i) p (enteredBut t (suc m) d))) i p (entered-one k (omega arith) (enteredBut t (suc m) d) (entered-at d (suc k) (omega arith)))
 
   -- what the walk holds is the first later position whose label lies that way, less 1
-  pub label-entered : (k : ℕ) → k ≤ m → (way : Way) → Entry way f (suc m) (suc k) (f (suc k)) (enteredBut t (suc m) (suc m - suc k) .current way)
+  pub label-entered : (k : ℕ) → k ≤ m → (way : Way)
+      → Entry way f (suc m) (suc k) (f (suc k)) (enteredBut t (suc m) (suc m - suc k) .current way)
   label-entered k h way = label-entry f (suc m) k (stage-at t m accepted k h) fresh (entered-at (suc m - suc k) k (omega arith) .current way)
     where
       fresh : (q : ℕ) → suc k < q → q ≤ suc m → ¬ Seen f (suc k) (f q)

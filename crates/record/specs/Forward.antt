@@ -24,7 +24,8 @@ pub data Takes {A : Type 0} : Bool → (xs rest : List A) → Type 0 where
   leave : {xs : List A} → Takes false xs xs
   take : {x : A} {xs : List A} → Takes true (x ∷ xs) xs
 
-pub rising-counts : {A : Type 0} {first second : Bool} {x : A} {above above-then below below-then : List A} → Takes first above above-then → Takes second (x ∷ below) below-then
+pub rising-counts : {A : Type 0} {first second : Bool} {x : A} {above above-then below below-then : List A}
+    → Takes first above above-then → Takes second (x ∷ below) below-then
     → step (triple first second false) (length below) (length above) ≡ counts (length below-then) (length above-then)
 unfolding step
 rising-counts leave leave = refl
@@ -32,7 +33,8 @@ rising-counts leave take = refl
 rising-counts take leave = refl
 rising-counts take take = refl
 
-pub falling-counts : {A : Type 0} {first second : Bool} {x : A} {above above-then below below-then : List A} → Takes first (x ∷ above) above-then → Takes second below below-then
+pub falling-counts : {A : Type 0} {first second : Bool} {x : A} {above above-then below below-then : List A}
+    → Takes first (x ∷ above) above-then → Takes second below below-then
     → step (triple first second true) (length below) (length above) ≡ counts (length below-then) (length above-then)
 unfolding step
 falling-counts leave leave = refl
@@ -73,7 +75,8 @@ module _ (f : ℕ → ℕ) (k : ℕ) where
       go false t = omega arith
 
 -- the triple that has these bits and this turn
-pub triple-is : (f : ℕ → ℕ) (k : ℕ) (t : Triple) → 1 ≤ f (suc k) → ((way : Way) → Tells (bitsOf t way) (BesideSeen (Seen f k) way (f (suc k)))) → Past (turnOf t) (f k) (f (suc k)) → tripleAt f (suc k) ≡ t
+pub triple-is : (f : ℕ → ℕ) (k : ℕ) (t : Triple) → 1 ≤ f (suc k) → ((way : Way)
+    → Tells (bitsOf t way) (BesideSeen (Seen f k) way (f (suc k)))) → Past (turnOf t) (f k) (f (suc k)) → tripleAt f (suc k) ≡ t
 unfolding tripleAt
 triple-is f k (triple first second third) label bits turn = λ i. triple
     (tells-same (BesideSeen (Seen f k) up v) (holds (dec-earlier f (v + 1) (suc k))) first (triple-bits f k label up) (bits up) i)
@@ -109,9 +112,17 @@ seen-grown f k fresh = record { fresh = fresh; new = (suc k, omega arith, omega 
 pub stage-first : (f : ℕ → ℕ) (z : Runs) → ((way : Way) → z .edge way ≡ f 1) → ((way : Way) → z .stack way ≡ []) → Stage f 0 z
 stage-first f z edges stacks = record {
   faithful = record {
-    sides = λ way. subst (Side (Seen f 1) way (z .edge way)) (sym (stacks way)) (last (λ x p s. past-not-self (subst (Past way (z .edge way)) (only x s ∙ sym (edges way)) p)));
+    sides =
+        λ way. subst (Side (Seen f 1) way (z .edge way)) (sym (stacks way)) (last (λ x p s. past-not-self (subst (Past way (z .edge way)) (only x s ∙ sym (edges way)) p)));
     ordered = λ way p. past-not-self (subst (Past way (z .edge way)) (edges (other way) ∙ sym (edges way)) p);
-    current = λ way x a b. (1, omega arith, omega arith, sym (edges way) ∙ not-past-same (other way) (λ p. b (subst (λ (e : ℕ). Past (other way) e x) (edges way ∙ sym (edges (other way))) p)) a);
+    current =
+        λ way x a b. (
+          1,
+          omega arith,
+          omega arith,
+          sym (edges way)
+              ∙ not-past-same (other way) (λ p. b (subst (λ (e : ℕ). Past (other way) e x) (edges way ∙ sym (edges (other way))) p)) a,
+        );
   };
   inside = λ way p. past-not-self (subst (Past way (z .edge way)) (sym (edges way)) p);
 }
@@ -119,14 +130,16 @@ stage-first f z edges stacks = record {
     only : (x : ℕ) → Seen f 1 x → x ≡ f 1
     only x (i, a, b, e) = sym e ∙ ap f (omega arith)
 
-pub step-stage : (f : ℕ → ℕ) (k : ℕ) {turn : Way} {bits : Way → Bool} {z y : Runs} → Stage f k z → Step turn bits (f (suc (suc k))) z y → Stage f (suc k) y
+pub step-stage : (f : ℕ → ℕ) (k : ℕ) {turn : Way} {bits : Way → Bool} {z y : Runs} → Stage f k z
+    → Step turn bits (f (suc (suc k))) z y → Stage f (suc k) y
 step-stage f k s step =
     let g = seen-grown f (suc k) (step-fresh (s .faithful) step) in
     record { faithful = step-faithful g (s .faithful) step; inside = step-inside g (s .faithful) step }
 
 -- a fresh label that lies before the next run makes a step, and its triple says which
 pub free-step : (f : ℕ → ℕ) (k : ℕ) (z : Runs) → Stage f k z → 1 ≤ f (suc (suc k)) → ¬ Seen f (suc k) (f (suc (suc k)))
-    → let t = tripleAt f (suc (suc k)) in Before (turnOf t) (f (suc (suc k))) (z .stack (turnOf t)) → Step (turnOf t) (bitsOf t) (f (suc (suc k))) z (grow (turnOf t) (bitsOf t) (f (suc (suc k))) z)
+    → let t = tripleAt f (suc (suc k)) in Before (turnOf t) (f (suc (suc k))) (z .stack (turnOf t))
+    → Step (turnOf t) (bitsOf t) (f (suc (suc k))) z (grow (turnOf t) (bitsOf t) (f (suc (suc k))) z)
 unfolding grow
 free-step f k z s label fresh free =
     let t = tripleAt f (suc (suc k)) in
@@ -159,7 +172,9 @@ module _ (f : ℕ → ℕ) (n : ℕ) (each : EachOnce f n) (next : (k : ℕ) →
   pub walk-counts : (k : ℕ) → suc k ≤ n → walk (tripleAt f) k ≡ countsOf (runsOf f k)
   unfolding walk
   walk-counts zero h = unfold runsOf in refl
-  walk-counts (suc k) h = ap (λ (c : Counts). andThen c (step (tripleAt f (suc (suc k))))) (walk-counts k (omega arith)) ∙ step-counts (tripleAt f (suc (suc k))) (steps k h)
+  walk-counts (suc k) h =
+      ap (λ (c : Counts). andThen c (step (tripleAt f (suc (suc k))))) (walk-counts k (omega arith))
+      ∙ step-counts (tripleAt f (suc (suc k))) (steps k h)
 
   -- ---- the end
   module _ (m : ℕ) (size : suc m ≡ n) where

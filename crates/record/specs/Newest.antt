@@ -1,5 +1,5 @@
--- Forward along accepted triples: the newest position in the first run that a label meets, looking either way, is the last earlier position whose label lies that way.
--- On either side of the current run, a run further off is older.
+-- Forward along accepted triples: the newest position in the first run that a label meets, looking either way, is the last earlier
+-- position whose label lies that way. On either side of the current run, a run further off is older.
 use mathlib.Core.Path.{_≡_, refl, sym, ap, subst, _∙_}
 use mathlib.Core.Logic.{_≢_, _⊎_, inl, inr}
 use mathlib.Core.Bool.{Bool}
@@ -28,7 +28,8 @@ pub record Newest (way : Way) (f : ℕ → ℕ) (m x p : ℕ) : Type 0 where
 -- each of the runs after x has the last position past what comes before it
 data NewestSide (way : Way) (f : ℕ → ℕ) (m : ℕ) : ℕ → List Run → List ℕ → Type 0 where
   no-newest : {x : ℕ} → NewestSide way f m x [] []
-  newest : {x p : ℕ} {r : Run} {rs : List Run} {ps : List ℕ} → 1 ≤ p → Newest way f m x p → NewestSide way f m (r .far) rs ps → NewestSide way f m x (r ∷ rs) (p ∷ ps)
+  newest : {x p : ℕ} {r : Run} {rs : List Run} {ps : List ℕ} → 1 ≤ p → Newest way f m x p → NewestSide way f m (r .far) rs ps
+      → NewestSide way f m x (r ∷ rs) (p ∷ ps)
 
 module _ (f : ℕ → ℕ) (m : ℕ) {way : Way} where
   -- ---- one more label, that is not past x
@@ -39,12 +40,14 @@ module _ (f : ℕ → ℕ) (m : ℕ) {way : Way} where
       go q a b (inl e) = subst (λ (i : ℕ). ¬ Past way x (f i)) (sym e) h
       go q a b (inr e) = n .later q a (omega arith)
 
-  side-kept : {x : ℕ} {rs : List Run} {ps : List ℕ} {S : ℕ → Type 0} → ¬ Past way x (f (suc m)) → Side S way x rs → NewestSide way f m x rs ps → NewestSide way f (suc m) x rs ps
+  side-kept : {x : ℕ} {rs : List Run} {ps : List ℕ} {S : ℕ → Type 0} → ¬ Past way x (f (suc m)) → Side S way x rs
+      → NewestSide way f m x rs ps → NewestSide way f (suc m) x rs ps
   side-kept h s no-newest = no-newest
   side-kept h (more k a s) (newest o n rest) = newest o (newest-kept h n) (side-kept (λ p. h (past-trans (far-past k) p)) s rest)
 
   -- the label of position m + 1 is joined to the runs that it meets
-  joined-newest : {S : ℕ → Type 0} {bit : Bool} {rs rest : List Run} {ps : List ℕ} {e : ℕ} → Front S way (f (suc m)) rs → Joined way (f (suc m)) bit rs e rest
+  joined-newest : {S : ℕ → Type 0} {bit : Bool} {rs rest : List Run} {ps : List ℕ} {e : ℕ} → Front S way (f (suc m)) rs
+      → Joined way (f (suc m)) bit rs e rest
       → NewestSide way f m (f (suc m)) rs ps → NewestSide way f (suc m) e rest (rest-of bit ps)
   unfolding rest-of
   joined-newest (open-front h) none no-newest = no-newest
@@ -52,7 +55,8 @@ module _ (f : ℕ → ℕ) (m : ℕ) {way : Way} where
   joined-newest (run-front k s) (joined b) (newest o n rest) = side-kept (past-not-back (far-past k)) s rest
 
   -- the runs after v hold all seen labels past v, so the first one's number is that of the last position past v
-  first-newest : {S : ℕ → Type 0} {v : ℕ} {rs : List Run} {ps : List ℕ} → ((q : ℕ) → 1 ≤ q → q ≤ m → S (f q)) → Front S way v rs → NewestSide way f m v rs ps → Newest way f m v (firstOf ps)
+  first-newest : {S : ℕ → Type 0} {v : ℕ} {rs : List Run} {ps : List ℕ} → ((q : ℕ) → 1 ≤ q → q ≤ m → S (f q)) → Front S way v rs
+      → NewestSide way f m v rs ps → Newest way f m v (firstOf ps)
   unfolding firstOf
   first-newest seen (open-front h) no-newest = record { within = omega arith; past = λ o. absurd (omega arith); later = λ q a b p. h (f q) p (seen q (omega arith) b) }
   first-newest seen (run-front k s) (newest o n rest) = n
@@ -79,8 +83,10 @@ module _ (f : ℕ → ℕ) (k : ℕ) {turn : Way} {bits : Way → Bool} {z y : R
   newest-back : Newest (other turn) f (suc k) v (suc k)
   newest-back = record { within = omega arith; past = λ o. past-turn (inside-past z turn (stage .inside) (step .past)); later = λ q a b p. omega arith }
 
-newest-ahead : (f : ℕ → ℕ) (k : ℕ) (turn : Way) {bits : Way → Bool} {z y : Runs} {ns : Way → List ℕ} → Stage f k z → Step turn bits (f (suc (suc k))) z y
-    → ((way : Way) → NewestSide way f (suc k) (z .edge way) (z .stack way) (ns way)) → (way : Way) → NewestSide way f (suc k) (f (suc (suc k))) (ahead turn z way) (facing turn (λ way. suc k) ns way)
+newest-ahead : (f : ℕ → ℕ) (k : ℕ) (turn : Way) {bits : Way → Bool} {z y : Runs} {ns : Way → List ℕ} → Stage f k z
+    → Step turn bits (f (suc (suc k))) z y
+    → ((way : Way) → NewestSide way f (suc k) (z .edge way) (z .stack way) (ns way)) → (way : Way)
+    → NewestSide way f (suc k) (f (suc (suc k))) (ahead turn z way) (facing turn (λ way. suc k) ns way)
 newest-ahead f k up stage step side up = newest-onward f k stage step (side up)
 newest-ahead f k up stage step side down = newest {p = suc k} (omega arith) (newest-back f k stage step) (side down)
 newest-ahead f k down stage step side up = newest {p = suc k} (omega arith) (newest-back f k stage step) (side up)

@@ -1,5 +1,5 @@
--- A list of labels is Baxter exactly if each label is put next to the run of the label before it.
--- Both conditions of a barred pattern are one crossing, seen going up or going down; between the two middle positions of a crossing some neighbours cross too.
+-- A list of labels is Baxter exactly if each label is put next to the run of the label before it. Both conditions of a barred
+-- pattern are one crossing, seen going up or going down; between the two middle positions of a crossing some neighbours cross too.
 use mathlib.Core.Path.{_≡_, refl, sym, ap, subst, _∙_}
 use mathlib.Core.Logic.{_≢_, _⊎_, inl, inr}
 use Prim.Native.Nat.{ℕ, zero, suc, _+_, _-_, _≤_, _<_}
@@ -49,7 +49,8 @@ module _ (f : ℕ → ℕ) (n : ℕ) (each : EachOnce f n) where
   barred-crossing : Barred f n → (turn : Way) × (i : ℕ) × (j : ℕ) × (k : ℕ) × (l : ℕ) × Crossing f n turn i j k l
   barred-crossing (l, hl, bl, (k, hk, bk, (j, hj, bj, (i, hi, bi, stand)))) = go stand
     where
-      go : BarredFirst (f i) (f j) (f k) (f l) ⊎ BarredSecond (f i) (f j) (f k) (f l) → (turn : Way) × (i : ℕ) × (j : ℕ) × (k : ℕ) × (l : ℕ) × Crossing f n turn i j k l
+      go : BarredFirst (f i) (f j) (f k) (f l) ⊎ BarredSecond (f i) (f j) (f k) (f l)
+          → (turn : Way) × (i : ℕ) × (j : ℕ) × (k : ℕ) × (l : ℕ) × Crossing f n turn i j k l
       go (inl s) =
           let d = differ i k hi (omega arith) (omega arith) in
           (down, i, j, k, l, record { start = hi; i<j = bi; j<k = bj; k<l = bk; end = omega arith; short = omega arith; over = omega arith; next = omega arith })
@@ -102,7 +103,8 @@ module _ (f : ℕ → ℕ) (n : ℕ) (each : EachOnce f n) where
   cross turn a zero j k e never p q = absurd (past-not-back p (subst (λ (x : ℕ). Past turn a (f x)) (sym e ∙ add-zero j) q))
   cross turn a (suc d) j k e never p q = go (order turn (f (suc j)) a) (cross turn a d (suc j) k (omega arith) (λ x l u. never x (omega arith) u))
     where
-      go : Order turn (f (suc j)) a → (Past turn (f (suc j)) a → Past turn a (f k) → (x : ℕ) × (suc j ≤ x) × (x < k) × Past turn (f x) a × Past turn a (f (suc x)))
+      go : Order turn (f (suc j)) a → (Past turn (f (suc j)) a → Past turn a (f k)
+          → (x : ℕ) × (suc j ≤ x) × (x < k) × Past turn (f x) a × Past turn a (f (suc x)))
           → (x : ℕ) × (j ≤ x) × (x < k) × Past turn (f x) a × Past turn a (f (suc x))
       go (before h) later = let (x, l, u, r, s) = later h q in (x, omega arith, u, r, s)
       go (same h) later = absurd (never (suc j) (omega arith) (omega arith) h)
@@ -118,4 +120,5 @@ module _ (f : ℕ → ℕ) (n : ℕ) (each : EachOnce f n) where
           middle (y, a, b, r, s) = late (next y (omega arith) (omega arith) turn (f i) (i, x .start, omega arith, refl) r s)
             where
               late : BesideSeen (Seen f y) (other turn) (f i) → ⊥
-              late (w, c, (m, hm, bm, e)) = omega (arith, each .once m l hm (omega arith) (omega arith) (x .end) (e ∙ beside-one c (x .next)))
+              late (w, c, (m, hm, bm, e)) =
+                  omega (arith, each .once m l hm (omega arith) (omega arith) (x .end) (e ∙ beside-one c (x .next)))

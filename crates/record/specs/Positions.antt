@@ -1,5 +1,6 @@
--- The walk along the triples with positions in place of labels. Forward, the newest position of each run beside the current one is known; the current run's is the
--- last position. Backward, of each run beside the current one, and of the current one on both sides, the position that first comes to lie beyond its far end is known, less 1.
+-- The walk along the triples with positions in place of labels. Forward, the newest position of each run beside the current one is
+-- known; the current run's is the last position. Backward, of each run beside the current one, and of the current one on both
+-- sides, the position that first comes to lie beyond its far end is known, less 1.
 use mathlib.Core.Bool.{Bool, true, false}
 use mathlib.Core.List.{List, [], _∷_}
 use Prim.Native.Nat.{ℕ, zero, suc, _-_}
@@ -15,7 +16,8 @@ firstOf [] = 0
 firstOf (x ∷ xs) = x
 
 -- ---- forward
--- the newest positions of the runs that the label of position k + 2 meets, looking either way, nearest first, where those of the runs beside the current one are given
+-- the newest positions of the runs that the label of position k + 2 meets, looking either way, nearest first, where those of the
+-- runs beside the current one are given
 abbrev pub newestAhead : Triple → (k : ℕ) → (Way → List ℕ) → Way → List ℕ
 newestAhead t k newest = facing (turnOf t) (λ way. suc k) newest
 
@@ -33,7 +35,8 @@ newestMet triples (suc zero) way = 0
 newestMet triples (suc (suc k)) way = firstOf (newestAhead (triples (suc (suc k))) k (newestAfter triples k) way)
 
 -- ---- backward
--- of the current run on either side, and of the runs beside it, nearest first: the position that first comes to lie beyond, less 1; n if none does
+-- of the current run on either side, and of the runs beside it, nearest first: the position that first comes to lie beyond, less 1;
+-- n if none does
 pub record Entered : Type 0 where
   pub current : Way → ℕ
   pub others : Way → List ℕ

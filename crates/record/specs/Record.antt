@@ -1,5 +1,6 @@
--- The record. "One kind byte, which is n, 1 to 255, then a body whose length n fixes: 3n − 3 bits rounded up to whole bytes (0 for n = 1, 96 for
--- n = 255). The first bit of the first triple is the highest bit of the first body byte. Spare bits at the low end of the last byte are 0."
+-- The record. "One kind byte, which is n, 1 to 255, then a body whose length n fixes: 3n − 3 bits rounded up to whole bytes (0 for
+-- n = 1, 96 for n = 255). The first bit of the first triple is the highest bit of the first body byte. Spare bits at the low end of
+-- the last byte are 0."
 use mathlib.Core.Bool.{Bool, false, _&&_}
 use mathlib.Core.List.{List, _∷_}
 use Prim.Native.Nat.{ℕ, zero, suc, _+_, _-_, _*_, _/_, _%_}

@@ -36,7 +36,8 @@ inside-past z way {c} {x} inside p = go (order way c (z .edge way))
     go (same e) = subst (λ (y : ℕ). Past way y x) (sym e) p
     go (after l) = absurd (inside way l)
 
--- what a label meets, looking either way, where it lies on the side `turn` of the current run: the runs on that side, and the other way the current run first
+-- what a label meets, looking either way, where it lies on the side `turn` of the current run: the runs on that side, and the other
+-- way the current run first
 abbrev pub facing : {A : Type 0} (turn : Way) (current : Way → A) (stack : Way → List A) → Way → List A
 facing up current stack up = stack up
 facing up current stack down = current down ∷ stack down
@@ -100,7 +101,8 @@ module _ {S : ℕ → Type 0} {z : Runs} (k : Faithful S z) where
       full = k .current turn;
     }) (k .sides (other turn))
 
-  pub fronts : (turn : Way) (v : ℕ) → Past turn (z .edge turn) v → Before turn v (z .stack turn) → (way : Way) → Front S way v (ahead turn z way)
+  pub fronts : (turn : Way) (v : ℕ) → Past turn (z .edge turn) v → Before turn v (z .stack turn) → (way : Way)
+      → Front S way v (ahead turn z way)
   fronts up v p b up = onward p b
   fronts up v p b down = back p b
   fronts down v p b up = back p b

@@ -79,7 +79,8 @@ module _ {S : ℕ → Type 0} {way : Way} where
       go (after p) = absurd (n .ordered p)
 
   -- the bit read off the runs
-  pub joined-tells : {v : ℕ} {bit : Bool} {rs rest : List Run} {end : ℕ} → Front S way v rs → Joined way v bit rs end rest → Tells bit (BesideSeen S way v)
+  pub joined-tells : {v : ℕ} {bit : Bool} {rs rest : List Run} {end : ℕ} → Front S way v rs → Joined way v bit rs end rest
+      → Tells bit (BesideSeen S way v)
   joined-tells (open-front f) none = λ t. f (t .0) (beside-past (t .1)) (t .2)
   joined-tells {v = v} (run-front {r = r} n s) (apart a) = λ t. go t (beside-tight (t .1) (n .past))
     where
@@ -89,7 +90,8 @@ module _ {S : ℕ → Type 0} {way : Way} where
   joined-tells (run-front {r = r} n s) (joined b) = (r .near, b, near-seen n)
 
   -- and the runs joined as the bit says
-  pub tells-joined : (v : ℕ) (bit : Bool) (rs : List Run) → Front S way v rs → Tells bit (BesideSeen S way v) → Joined way v bit rs (end-of bit v rs) (rest-of bit rs)
+  pub tells-joined : (v : ℕ) (bit : Bool) (rs : List Run) → Front S way v rs → Tells bit (BesideSeen S way v)
+      → Joined way v bit rs (end-of bit v rs) (rest-of bit rs)
   unfolding end-of rest-of
   tells-joined v false [] f t = none
   tells-joined v false (r ∷ rs) (run-front n s) t = apart (λ b. t (r .near, b, near-seen n))

@@ -25,12 +25,14 @@ pub record Spans (way : Way) (r : Run) (s : ℕ) : Type 0 where
 -- the runs after x have these sizes, and none touches the one before it
 pub data Spaced (way : Way) : ℕ → List Run → List ℕ → Type 0 where
   last : {x : ℕ} → Spaced way x [] []
-  more : {x s : ℕ} {r : Run} {rs : List Run} {ss : List ℕ} → Past way x (r .near) → ¬ Beside way x (r .near) → Spans way r s → Spaced way (r .far) rs ss → Spaced way x (r ∷ rs) (s ∷ ss)
+  more : {x s : ℕ} {r : Run} {rs : List Run} {ss : List ℕ} → Past way x (r .near) → ¬ Beside way x (r .near) → Spans way r s
+      → Spaced way (r .far) rs ss → Spaced way x (r ∷ rs) (s ∷ ss)
 
 -- the runs after v have these sizes; the first may touch v
 pub data Meets (way : Way) (v : ℕ) : List Run → List ℕ → Type 0 where
   nothing : Meets way v [] []
-  run : {s : ℕ} {r : Run} {rs : List Run} {ss : List ℕ} → Past way v (r .near) → Spans way r s → Spaced way (r .far) rs ss → Meets way v (r ∷ rs) (s ∷ ss)
+  run : {s : ℕ} {r : Run} {rs : List Run} {ss : List ℕ} → Past way v (r .near) → Spans way r s → Spaced way (r .far) rs ss
+      → Meets way v (r ∷ rs) (s ∷ ss)
 
 -- ---- one side of a step
 joined-reaches : (way : Way) {v s : ℕ} {r : Run} → Beside way v (r .near) → Spans way r s → Reaches way v (r .far) s
@@ -41,7 +43,8 @@ apart-reaches : (way : Way) (v : ℕ) → Reaches way v v 0
 apart-reaches up v = omega arith
 apart-reaches down v = omega arith
 
-side-forward : {way : Way} {v e : ℕ} {bit : Bool} {rs rest : List Run} {ss : List ℕ} → Meets way v rs ss → Joined way v bit rs e rest → Reaches way v e (joinedSize bit ss) × Spaced way e rest (rest-of bit ss)
+side-forward : {way : Way} {v e : ℕ} {bit : Bool} {rs rest : List Run} {ss : List ℕ} → Meets way v rs ss
+    → Joined way v bit rs e rest → Reaches way v e (joinedSize bit ss) × Spaced way e rest (rest-of bit ss)
 unfolding joinedSize rest-of
 side-forward {way} {v} nothing none = (apart-reaches way v, last)
 side-forward {way} {v} (run p q s) (apart a) = (apart-reaches way v, more p a q s)
@@ -57,7 +60,8 @@ Has true [] = ⊥
 Has true (s ∷ ss) = 1 ≤ s
 Has false ss = Unit
 
-side-back : (way : Way) (v e : ℕ) (bit : Bool) (rest : List Run) (ss : List ℕ) → Has bit ss → Reaches way v e (joinedSize bit ss) → Spaced way e rest (rest-of bit ss)
+side-back : (way : Way) (v e : ℕ) (bit : Bool) (rest : List Run) (ss : List ℕ) → Has bit ss → Reaches way v e (joinedSize bit ss)
+    → Spaced way e rest (rest-of bit ss)
     → Meets way v (met bit way v e rest) ss × Joined way v bit (met bit way v e rest) e rest
 unfolding joinedSize rest-of
 side-back way v e false rest ss h r s = subst (λ (x : ℕ). Spaced way x rest ss → Meets way v rest ss × Joined way v false rest x rest) (here way r) unjoined s
@@ -112,7 +116,8 @@ module _ (t : Triple) {v : ℕ} {z y : Runs} {q : Sizes} (k : Sized z q) (step :
   meets : (way : Way) → Meets way v (ahead (turnOf t) z way) (sizesAhead t q way)
   meets way = go (turnOf t) way (step .past) (step .free)
     where
-      go : (turn way : Way) → Past turn (z .edge turn) v → Before turn v (z .stack turn) → Meets way v (ahead turn z way) (facing turn (λ way. q .current) (q .others) way)
+      go : (turn way : Way) → Past turn (z .edge turn) v → Before turn v (z .stack turn)
+          → Meets way v (ahead turn z way) (facing turn (λ way. q .current) (q .others) way)
       go up up p b = to-meets (k .sides up) b
       go up down p b = run (past-turn p) (current-spans down) (k .sides down)
       go down up p b = run (past-turn p) (current-spans up) (k .sides up)
@@ -151,8 +156,10 @@ module _ (t : Triple) {v : ℕ} {z y : Runs} {q : Sizes} (k : Sized z q) (step :
 
 -- back: the runs before have the sizes before, and the step from them leads here
 module _ {bits : Way → Bool} {v : ℕ} {y : Runs} {q : Sizes} (some : 1 ≤ q .current) where
-  put-back : (turn : Way) {onward back : List Run} → Meets turn v onward (q .others turn) → Joined turn v (bits turn) onward (y .edge turn) (y .stack turn)
-      → Meets (other turn) v back (q .current ∷ q .others (other turn)) → Joined (other turn) v (bits (other turn)) back (y .edge (other turn)) (y .stack (other turn))
+  put-back : (turn : Way) {onward back : List Run} → Meets turn v onward (q .others turn)
+      → Joined turn v (bits turn) onward (y .edge turn) (y .stack turn)
+      → Meets (other turn) v back (q .current ∷ q .others (other turn))
+      → Joined (other turn) v (bits (other turn)) back (y .edge (other turn)) (y .stack (other turn))
       → Step turn bits v (split turn onward back) y × Sized (split turn onward back) q
   put-back up m j (run p c s) i = (
     record { past = past-turn p; free = before-first m; joins = λ way. elim way [ up ↦ j | down ↦ i ] },

@@ -1,5 +1,5 @@
--- The triple of a position. "For positions 2 to n, with label v there, three bits in this order: first: 1 if v + 1 stands at an earlier position;
--- second: 1 if v − 1 stands at an earlier position; third: 1 if v is smaller than the label one position before."
+-- The triple of a position. "For positions 2 to n, with label v there, three bits in this order: first: 1 if v + 1 stands at an
+-- earlier position; second: 1 if v − 1 stands at an earlier position; third: 1 if v is smaller than the label one position before."
 use mathlib.Core.Path.{_≡_}
 use mathlib.Core.Bool.{Bool, false}
 use Prim.Native.Nat.{ℕ, zero, suc, _+_, _-_}

@@ -1,5 +1,5 @@
--- The walk along the triples. "Read from the front, the labels seen so far form runs of consecutive labels. Let the current run hold the newest
--- label, with p runs below it and q above. Start: p = 0, q = 0. The triple decides among eight steps."
+-- The walk along the triples. "Read from the front, the labels seen so far form runs of consecutive labels. Let the current run
+-- hold the newest label, with p runs below it and q above. Start: p = 0, q = 0. The triple decides among eight steps."
 use mathlib.Core.Path.{_≡_}
 use mathlib.Core.Bool.{true, false}
 use Prim.Native.Nat.{ℕ, zero, suc, _-_}

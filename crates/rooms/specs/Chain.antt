@@ -1,4 +1,5 @@
--- Chains of direct steps: two in a row are one, a map that keeps the steps keeps the chains, turned round they are chains again, and whether one leads from one room to another is decided.
+-- Chains of direct steps: two in a row are one, a map that keeps the steps keeps the chains, turned round they are chains again,
+-- and whether one leads from one room to another is decided.
 use mathlib.Core.Path.{_≡_, subst}
 use mathlib.Core.Logic.{_⊎_, inl, inr}
 use Prim.Native.Nat.{ℕ, zero, suc, _<_}

@@ -1,5 +1,5 @@
--- Whether a stretch is a segment, whether it holds an edge, whether one segment holds two edges, and whether one room is left of another, right of it, below it or above it are decided, on any
--- room list.
+-- Whether a stretch is a segment, whether it holds an edge, whether one segment holds two edges, and whether one room is left of
+-- another, right of it, below it or above it are decided, on any room list.
 use mathlib.Core.Path.{_≡_, refl, sym, _∙_, subst}
 use mathlib.Core.Logic.{_⊎_}
 use mathlib.Core.List.{List}
@@ -39,7 +39,8 @@ dec-drawn rooms flat line z =
     dec-some _ (λ i. dec-on (roomIn rooms i .bottom) (roomIn rooms i .top) (roomIn rooms i .left) (roomIn rooms i .right) line z) 0 (length rooms)
 
 -- where a stretch starts, only the unit edge just before its start is asked for
-unfoldable dec-starts : (rooms : List Room) (direction : Direction) (line from : ℕ) → Dec ((z : ℕ) → suc z ≡ from → ¬ Drawn rooms direction line z)
+unfoldable dec-starts : (rooms : List Room) (direction : Direction) (line from : ℕ) → Dec ((z : ℕ) → suc z ≡ from
+    → ¬ Drawn rooms direction line z)
 unfolding dec-¬ dec-iff dec-drawn
 dec-starts rooms direction line zero = yes (λ z e. omega arith)
 dec-starts rooms direction line (suc z) = dec-iff (λ h w e. subst (λ (v : ℕ). ¬ Drawn rooms direction line v) (omega arith) h) (λ h. h z refl) (dec-¬ (dec-drawn rooms direction line z))

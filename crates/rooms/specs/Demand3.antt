@@ -1,5 +1,5 @@
--- Demand 3: "Any two accepted room lists get the same record, byte for byte, exactly when the two floorplans are equivalent. The reading of any
--- bytes at all is accepted exactly when they are the record of some accepted room list."
+-- Demand 3: "Any two accepted room lists get the same record, byte for byte, exactly when the two floorplans are equivalent. The
+-- reading of any bytes at all is accepted exactly when they are the record of some accepted room list."
 use mathlib.Core.Path.{_≡_, ap, subst, _∙_}
 use mathlib.Core.Logic.{_≢_, inl, inr, _↔_}
 use mathlib.Core.List.{List}
@@ -45,7 +45,8 @@ rooms-give-baxter rooms accepted =
     record { baxter = label-list-baxter rooms k; size = length-label-list rooms k; some = omega arith; few = omega arith }
 
 -- "the same record, byte for byte, exactly when the two floorplans are equivalent"
-pub demand3-same-record-iff-equivalent : (rooms others : List Room) → AcceptedRooms rooms → AcceptedRooms others → (recordOfRooms rooms ≡ recordOfRooms others) ↔ Equivalent rooms others
+pub demand3-same-record-iff-equivalent : (rooms others : List Room) → AcceptedRooms rooms → AcceptedRooms others
+    → (recordOfRooms rooms ≡ recordOfRooms others) ↔ Equivalent rooms others
 unfolding recordOfRooms
 demand3-same-record-iff-equivalent rooms others accepted accepted-others =
     let k = accepted→floorplan rooms accepted in
@@ -71,8 +72,10 @@ pub record-of-rooms-readable : (rooms : List Room) → AcceptedRooms rooms → R
 unfolding recordOfRooms
 record-of-rooms-readable rooms accepted = let b = rooms-give-baxter rooms accepted in demand2-written-read (labelList rooms) (omega (arith, b .some, b .size)) (b .baxter)
 
--- "The reading of any bytes at all is accepted exactly when they are the record of some accepted room list": the grid drawing of its labels is one
-pub demand3-read-iff-record-of-rooms : (bytes : List ℕ) → Bytes bytes → Readable bytes ↔ ((rooms : List Room) × AcceptedRooms rooms × SixteenBits rooms × (recordOfRooms rooms ≡ bytes))
+-- "The reading of any bytes at all is accepted exactly when they are the record of some accepted room list": the grid drawing of
+-- its labels is one
+pub demand3-read-iff-record-of-rooms : (bytes : List ℕ) → Bytes bytes
+    → Readable bytes ↔ ((rooms : List Room) × AcceptedRooms rooms × SixteenBits rooms × (recordOfRooms rooms ≡ bytes))
 unfolding recordOfRooms
 demand3-read-iff-record-of-rooms bytes all = (to, λ (rooms, accepted, sixteen-bits, e). subst Readable e (record-of-rooms-readable rooms accepted))
   where

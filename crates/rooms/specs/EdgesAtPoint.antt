@@ -1,4 +1,5 @@
--- Unit edges of a floorplan: one is drawn exactly where the rooms on its two sides differ, and then it lies on an edge of both. At no point do just two drawn unit edges form a hook.
+-- Unit edges of a floorplan: one is drawn exactly where the rooms on its two sides differ, and then it lies on an edge of both. At
+-- no point do just two drawn unit edges form a hook.
 use mathlib.Core.Path.{_≡_, ap}
 use mathlib.Core.Logic.{_≢_, inl, inr}
 use Prim.Native.Nat.{ℕ, zero, _-_, _<_, zero-le}
@@ -41,7 +42,8 @@ module _ (p : Plan) (t : Tiles p) (c d x y : ℕ) (hc : c < p .count) (hd : d < 
   ]
 
 -- where no edge leads right from a point and none leads up, none leads down and none left
-pub no-hook : (p : Plan) → Tiles p → (x y : ℕ) → Inner p x y → ¬ FlatEdge p x y → ¬ UprightEdge p x y → (¬ UprightEdge p x (y - 1)) × (¬ FlatEdge p (x - 1) y)
+pub no-hook : (p : Plan) → Tiles p → (x y : ℕ) → Inner p x y → ¬ FlatEdge p x y → ¬ UprightEdge p x y
+    → (¬ UprightEdge p x (y - 1)) × (¬ FlatEdge p (x - 1) y)
 no-hook p t x y h no-right no-up =
     let sw = owner p (x - 1) (y - 1) in
     let se = owner p x (y - 1) in

@@ -1,5 +1,6 @@
--- Equivalence. "Two floorplans are equivalent if their rooms pair off one to one, and their segments too, so that a segment holds the left edge of a room exactly when
--- its partner holds the left edge of that room's partner, and likewise for right, bottom and top edges. Sizes, shared edges and list order do not count."
+-- Equivalence. "Two floorplans are equivalent if their rooms pair off one to one, and their segments too, so that a segment holds
+-- the left edge of a room exactly when its partner holds the left edge of that room's partner, and likewise for right, bottom and
+-- top edges. Sizes, shared edges and list order do not count."
 use mathlib.Core.Path.{_≡_}
 use mathlib.Core.Logic.{_↔_}
 use mathlib.Core.List.{List}

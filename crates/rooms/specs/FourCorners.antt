@@ -1,5 +1,6 @@
--- "No point is a corner of four rooms": where four drawn unit edges meet, a room has its corner in each of the four quadrants of the point; and of three different rooms with a
--- corner at one point two lie across it from each other, so four drawn unit edges meet there.
+-- "No point is a corner of four rooms": where four drawn unit edges meet, a room has its corner in each of the four quadrants of
+-- the point; and of three different rooms with a corner at one point two lie across it from each other, so four drawn unit edges
+-- meet there.
 use mathlib.Core.Path.{_≡_}
 use mathlib.Core.Logic.{_≢_, _⊎_, inl, inr}
 use Prim.Native.Nat.{ℕ, _-_, _<_, zero-le}
@@ -16,7 +17,8 @@ pub record Quadrants (p : Plan) (x y : ℕ) : Type 0 where
   pub upper-left : Some (λ i. (p .right i ≡ x) × (p .bottom i ≡ y)) 0 (p .count)
   pub upper-right : Some (λ i. (p .left i ≡ x) × (p .bottom i ≡ y)) 0 (p .count)
 
-pub four-edges→quadrants : (p : Plan) → Tiles p → (x y : ℕ) → Inner p x y → UprightEdge p x (y - 1) → UprightEdge p x y → FlatEdge p (x - 1) y → FlatEdge p x y → Quadrants p x y
+pub four-edges→quadrants : (p : Plan) → Tiles p → (x y : ℕ) → Inner p x y → UprightEdge p x (y - 1) → UprightEdge p x y
+    → FlatEdge p (x - 1) y → FlatEdge p x y → Quadrants p x y
 four-edges→quadrants p k x y h low high near far =
     let sw = owner p (x - 1) (y - 1) in
     let se = owner p x (y - 1) in
@@ -90,7 +92,8 @@ module _ (p : Plan) (k : Floorplan p) (x y : ℕ) where
   diagonal i (inr a, inr b) = inl (lower-left a b)
 
   -- no three rooms of a floorplan have a corner at one point
-  pub not-three-corners : (a b c : ℕ) → a < count → b < count → c < count → a ≢ b → a ≢ c → b ≢ c → Corner (roomOf p a) x y → Corner (roomOf p b) x y → Corner (roomOf p c) x y → ⊥
+  pub not-three-corners : (a b c : ℕ) → a < count → b < count → c < count → a ≢ b → a ≢ c → b ≢ c → Corner (roomOf p a) x y
+      → Corner (roomOf p b) x y → Corner (roomOf p c) x y → ⊥
   not-three-corners a b c ha hb hc ab ac bc at-a at-b at-c = go (diagonal a at-a) (diagonal b at-b) (diagonal c at-c)
     where
       go : Rising a ⊎ Falling a → Rising b ⊎ Falling b → Rising c ⊎ Falling c → ⊥

@@ -1,4 +1,5 @@
--- Two different rooms of a floorplan are in one of the four relations left, right, below, above; UpsideDown and Staircase have that they are in no other.
+-- Two different rooms of a floorplan are in one of the four relations left, right, below, above; UpsideDown and Staircase have that
+-- they are in no other.
 use mathlib.Core.Logic.{_≢_, _⊎_, inl, inr}
 use Prim.Native.Nat.{ℕ, _≤_, _<_, max}
 use native.Mathlib.Omega.{arith}
@@ -24,7 +25,8 @@ module _ (p : Plan) (k : Floorplan p) where
       in-column (inl r) = across r
       in-column (inr r) = across-back r
 
-      go : Fits p a → Fits p b → (top a ≤ bottom b) ⊎ (bottom b < top a) → (top b ≤ bottom a) ⊎ (bottom a < top b) → (right a ≤ left b) ⊎ (left b < right a) → (right b ≤ left a) ⊎ (left a < right b)
+      go : Fits p a → Fits p b → (top a ≤ bottom b) ⊎ (bottom b < top a) → (top b ≤ bottom a) ⊎ (bottom a < top b)
+          → (right a ≤ left b) ⊎ (left b < right a) → (right b ≤ left a) ⊎ (left a < right b)
           → Related (Left p) (Below p) a b
       go fa fb (inr s) (inr t) u v = in-row (row→left-or-right p k a b (max (bottom a) (bottom b)) ha hb ne (omega arith) (omega arith))
       go fa fb (inl s) t (inr u) (inr v) = in-column (row→left-or-right (swap p) (swap-floorplan k) a b (max (left a) (left b)) ha hb ne (omega arith) (omega arith))

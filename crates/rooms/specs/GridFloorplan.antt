@@ -1,5 +1,5 @@
--- The grid drawing of a list of the labels 1 to n, each once, is an accepted room list, and its corners are 16-bit numbers. Tiling says so of the rooms by position; here they go by
--- their place in the drawing's list.
+-- The grid drawing of a list of the labels 1 to n, each once, is an accepted room list, and its corners are 16-bit numbers. Tiling
+-- says so of the rooms by position; here they go by their place in the drawing's list.
 use mathlib.Core.Path.{_≡_, sym, ap, subst}
 use mathlib.Core.List.{List}
 use Prim.Native.Nat.{ℕ, zero, suc, _≤_, _<_, zero-le}
@@ -28,7 +28,8 @@ module _ (labels : List ℕ) where
   pub place→position : {i : ℕ} → i < length (drawingOf labels) → suc i ≤ length labels
   place→position h = omega (arith, length-drawing)
 
-  pub room-in-drawing : (i : ℕ) → i < length (drawingOf labels) → roomIn (drawingOf labels) i ≡ roomAt (labelAt labels) (length labels) (suc i)
+  pub room-in-drawing : (i : ℕ) → i < length (drawingOf labels)
+      → roomIn (drawingOf labels) i ≡ roomAt (labelAt labels) (length labels) (suc i)
   unfolding drawingOf
   room-in-drawing i h = getD-table (λ i. roomAt (labelAt labels) (length labels) (suc i)) (length labels) i (record { left = 0; bottom = 0; right = 0; top = 0 }) (place→position h)
 

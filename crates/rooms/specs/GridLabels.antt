@@ -1,4 +1,5 @@
--- The label list of the grid drawing of a Baxter list is that list (000, Theorem 1): each room stands at its own position and has its own label.
+-- The label list of the grid drawing of a Baxter list is that list (000, Theorem 1): each room stands at its own position and has
+-- its own label.
 use mathlib.Core.Path.{_≡_, sym, ap, _∙_}
 use mathlib.Core.Logic.{_≢_}
 use mathlib.Core.List.{List}
@@ -83,7 +84,8 @@ module _ (labels : List ℕ) (baxter : Baxter labels) (some : 1 ≤ length label
           go (zero, l, u, e) = absurd (omega arith)
           go (suc a, l, u, e) = (a, zero-le, omega (arith, length-drawing labels), omega arith)
 
-      rises : (a b : ℕ) → a < length rooms → b < length rooms → f (suc b) - 1 ≡ suc (f (suc a) - 1) → labelOf rooms a - 1 < labelOf rooms b - 1
+      rises : (a b : ℕ) → a < length rooms → b < length rooms → f (suc b) - 1 ≡ suc (f (suc a) - 1)
+          → labelOf rooms a - 1 < labelOf rooms b - 1
       rises a b ha hb e = elim (related a b ha hb (λ q. omega (arith, ap (λ (c : ℕ). f (suc c)) q))) [
         | along r ↦ omega (arith, range a ha, left→earlier rooms k r)
         | along-back r ↦ absurd (omega (arith, left r))
@@ -96,7 +98,8 @@ module _ (labels : List ℕ) (baxter : Baxter labels) (some : 1 ≤ length label
       let a : i < length rooms = omega (arith, length-label-list rooms k) in
       ap (labelAt (labelList rooms)) (sym (drawing-position i a)) ∙ label-by-position rooms k i a ∙ drawing-label i a)
 
--- the grid drawing of a Baxter list of 1 to 255 labels: an accepted room list of 16-bit numbers, whose label list is that list (000, Theorem 1)
+-- the grid drawing of a Baxter list of 1 to 255 labels: an accepted room list of 16-bit numbers, whose label list is that list
+-- (000, Theorem 1)
 pub record DrawnAs (labels : List ℕ) (rooms : List Room) : Type 0 where
   pub accepted : AcceptedRooms rooms
   pub sixteen-bits : SixteenBits rooms

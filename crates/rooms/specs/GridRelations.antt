@@ -1,5 +1,6 @@
--- In the grid drawing of a Baxter list, a room left of another one stands at an earlier position and has a smaller label, and a room below another one stands earlier and has a larger
--- label. The two are one law, since smaller and larger labels are the two ways to look along the labels. Only here need the list be Baxter.
+-- In the grid drawing of a Baxter list, a room left of another one stands at an earlier position and has a smaller label, and a
+-- room below another one stands earlier and has a larger label. The two are one law, since smaller and larger labels are the two
+-- ways to look along the labels. Only here need the list be Baxter.
 use mathlib.Core.Path.{_≡_, refl, sym, ap, subst, _∙_}
 use mathlib.Core.Logic.{inl, inr}
 use mathlib.Core.List.{List}
@@ -30,7 +31,8 @@ nearer down b p = omega arith
 
 module _ (f : ℕ → ℕ) (n : ℕ) (once : EachOnce f n) (not-barred : ¬ Barred f n) where
   -- no positions i < c, c + 1 < j have labels that go c, j, i, c + 1 one way: no 3-14-2 where that is up, no 2-41-3 where it is down
-  no-3142-either-way : (way : Way) (i c j : ℕ) → 1 ≤ i → i < c → suc c < j → j ≤ n → Past way (f c) (f j) → Past way (f j) (f i) → Past way (f i) (f (suc c)) → ⊥
+  no-3142-either-way : (way : Way) (i c j : ℕ) → 1 ≤ i → i < c → suc c < j → j ≤ n → Past way (f c) (f j) → Past way (f j) (f i)
+      → Past way (f i) (f (suc c)) → ⊥
   no-3142-either-way way i c j from ic cj to low middle high = not-all-seen (distance (f i) (f j)) (f i) (omega arith) (i, from, omega arith, refl) middle high
     where
       next : NextTo f c
@@ -48,7 +50,8 @@ module _ (f : ℕ → ℕ) (n : ℕ) (once : EachOnce f n) (not-barred : ¬ Barr
           ]
 
   -- the room at i ends at z, where the room at j starts: then i is the earlier position, and its label comes first, going that way
-  meet→earlier-and-past : (way : Way) (i j : ℕ) {z : ℕ} → 1 ≤ i → i ≤ n → 1 ≤ j → j ≤ n → Nearest up (λ k. Less way (f i) (f k)) n i (suc z) → Nearest down (λ k. Less way (f k) (f j)) n j z
+  meet→earlier-and-past : (way : Way) (i j : ℕ) {z : ℕ} → 1 ≤ i → i ≤ n → 1 ≤ j → j ≤ n
+      → Nearest up (λ k. Less way (f i) (f k)) n i (suc z) → Nearest down (λ k. Less way (f k) (f j)) n j z
       → (i < j) × Past way (f i) (f j)
   meet→earlier-and-past way i j {z} fi ti fj tj ahead back = (omega (arith, ahead .past, back .past), go (order way (f i) (f j)))
     where
@@ -81,7 +84,8 @@ module _ (labels : List ℕ) (baxter : Baxter labels) where
   abbrev n : ℕ
   n = length labels
 
-  meet→precedes : (way : Way) (a b : ℕ) {end start : ℕ} → suc a ≤ n → suc b ≤ n → end ≡ start → Nearest up (λ k. Less way (f (suc a)) (f k)) n (suc a) (suc end)
+  meet→precedes : (way : Way) (a b : ℕ) {end start : ℕ} → suc a ≤ n → suc b ≤ n → end ≡ start
+      → Nearest up (λ k. Less way (f (suc a)) (f k)) n (suc a) (suc end)
       → Nearest down (λ k. Less way (f k) (f (suc b))) n (suc b) start → Precedes labels way a b
   meet→precedes way a b ha hb e ahead back =
       let (l, p) = meet→earlier-and-past f n (baxter .each-once) (baxter .not-barred) way (suc a) (suc b) (omega arith) ha (omega arith) hb ahead
@@ -99,12 +103,15 @@ module _ (labels : List ℕ) (baxter : Baxter labels) where
       (first-nearest (λ k. f k < f (suc a)) (λ k. decLt (f k) (f (suc a))) n (suc a) (omega arith) ha)
       (last-nearest (λ k. f (suc b) < f k) (λ k. decLt (f (suc b)) (f k)) n (suc b) (omega arith) hb)
 
-  chain→precedes : (way : Way) {Direct : ℕ → ℕ → Type 0} → ((a b : ℕ) → Direct a b → Precedes labels way a b) → {a b : ℕ} → Chain Direct a b → Precedes labels way a b
+  chain→precedes : (way : Way) {Direct : ℕ → ℕ → Type 0} → ((a b : ℕ) → Direct a b → Precedes labels way a b) → {a b : ℕ}
+      → Chain Direct a b → Precedes labels way a b
   chain→precedes way direct (one d) = direct _ _ d
   chain→precedes way direct (step r d) = let (l, p) = chain→precedes way direct r in let (m, q) = direct _ _ d in (omega arith, past-trans p q)
 
-  pub left→earlier-and-smaller : {a b : ℕ} → Left (planOf (drawingOf labels)) a b → (a < b) × (labelAt labels (suc a) < labelAt labels (suc b))
+  pub left→earlier-and-smaller : {a b : ℕ} → Left (planOf (drawingOf labels)) a b
+      → (a < b) × (labelAt labels (suc a) < labelAt labels (suc b))
   left→earlier-and-smaller r = let (l, p) = chain→precedes up left-step→precedes r in (l, p .less)
 
-  pub below→earlier-and-larger : {a b : ℕ} → Below (planOf (drawingOf labels)) a b → (a < b) × (labelAt labels (suc b) < labelAt labels (suc a))
+  pub below→earlier-and-larger : {a b : ℕ} → Below (planOf (drawingOf labels)) a b
+      → (a < b) × (labelAt labels (suc b) < labelAt labels (suc a))
   below→earlier-and-larger r = let (l, p) = chain→precedes down below-step→precedes r in (l, p .less)

@@ -1,5 +1,5 @@
--- The relation that is answered for two positions of a Baxter list is how their rooms stand to each other in its grid drawing. "For positions i < j, room i is left of j if its label is
--- smaller, else below j."
+-- The relation that is answered for two positions of a Baxter list is how their rooms stand to each other in its grid drawing. "For
+-- positions i < j, room i is left of j if its label is smaller, else below j."
 use mathlib.Core.Logic.{_≢_, ite}
 use mathlib.Core.List.{List}
 use Prim.Native.Nat.{ℕ, suc, _≤_, _<_}
@@ -41,7 +41,8 @@ module _ (labels : List ℕ) (baxter : Baxter labels) (some : 1 ≤ length label
         (omega (arith, drawing-position labels baxter some a ha, drawing-position labels baxter some b hb)) .1
         (omega (arith, drawing-label labels baxter some a ha, drawing-label labels baxter some b hb))
 
-  pub drawing-stands : (a b : ℕ) → a < length labels → b < length labels → a ≢ b → Stands (drawingOf labels) (relationOf (labelAt labels) (suc a) (suc b)) a b
+  pub drawing-stands : (a b : ℕ) → a < length labels → b < length labels → a ≢ b
+      → Stands (drawingOf labels) (relationOf (labelAt labels) (suc a) (suc b)) a b
   unfolding relationOf
   drawing-stands a b la lb ne = go (decLt (suc a) (suc b)) (decLt (f (suc a)) (f (suc b))) (decLt (f (suc b)) (f (suc a)))
     where

@@ -1,4 +1,5 @@
--- Labels and positions of an accepted room list: both are 1 to n, each once; and "for positions i < j, room i is left of j if its label is smaller, else below j" (000, Observation 3.4).
+-- Labels and positions of an accepted room list: both are 1 to n, each once; and "for positions i < j, room i is left of j if its
+-- label is smaller, else below j" (000, Observation 3.4).
 use mathlib.Core.Path.{_≡_}
 use mathlib.Core.Logic.{_↔_}
 use mathlib.Core.List.{List}

@@ -1,5 +1,6 @@
--- Labels, positions and the record of a room list. "The label of a room is 1 plus the number of rooms left of it or above it. The position of a room is 1 plus the
--- number of rooms left of it or below it." "The label list gives the labels by position." A room list's "record is the record of its label list".
+-- Labels, positions and the record of a room list. "The label of a room is 1 plus the number of rooms left of it or above it. The
+-- position of a room is 1 plus the number of rooms left of it or below it." "The label list gives the labels by position." A room
+-- list's "record is the record of its label list".
 use mathlib.Core.Path.{_≡_}
 use mathlib.Core.Logic.{_⊎_}
 use mathlib.Core.List.{List}

@@ -1,4 +1,5 @@
--- The label list of an accepted room list is Baxter (000, Lemma 3.6): each label is put next to the run of the label before it, since there is no 3-14-2 and no 2-41-3.
+-- The label list of an accepted room list is Baxter (000, Lemma 3.6): each label is put next to the run of the label before it,
+-- since there is no 3-14-2 and no 2-41-3.
 use mathlib.Core.Path.{_≡_, sym, ap, subst}
 use mathlib.Core.Logic.{_≢_, inl, inr}
 use mathlib.Core.List.{List}
@@ -50,7 +51,8 @@ module _ (rooms : List Room) (k : Floorplan (planOf rooms)) where
       range = each-once .range
 
       -- a label y, not that of position c + 1, that is seen unless it comes too late
-      seen : (y : ℕ) → 1 ≤ y → y ≤ length rooms → f (suc (suc c)) ≢ y → ((j : ℕ) → suc c < j → j < length rooms → f (suc j) ≡ y → ⊥) → Seen f (suc c) y
+      seen : (y : ℕ) → 1 ≤ y → y ≤ length rooms → f (suc (suc c)) ≢ y → ((j : ℕ) → suc c < j → j < length rooms → f (suc j) ≡ y
+          → ⊥) → Seen f (suc c) y
       seen y lo hi not-next late = found (every f (length rooms) each-once y lo hi)
         where
           found : Some (λ j. f j ≡ y) 1 (suc (length rooms)) → Seen f (suc c) y
@@ -66,7 +68,8 @@ module _ (rooms : List Room) (k : Floorplan (planOf rooms)) where
       labelled : (i : ℕ) → i < length rooms → (at i < length rooms) × (positionOf rooms (at i) ≡ suc i) × (labelOf rooms (at i) ≡ f (suc i))
       labelled i h = let (there, p) = room-at-position rooms k (suc i) (omega arith) h in (there, p, sym (label-list-at rooms k i h))
 
-      go : (turn : Way) (x i : ℕ) → 1 ≤ i → i < suc (suc c) → f i ≡ x → Past turn (f (suc c)) x → Past turn x (f (suc (suc c))) → BesideSeen (Seen f (suc c)) (other turn) x
+      go : (turn : Way) (x i : ℕ) → 1 ≤ i → i < suc (suc c) → f i ≡ x → Past turn (f (suc c)) x → Past turn x (f (suc (suc c)))
+          → BesideSeen (Seen f (suc c)) (other turn) x
       go turn x zero li hi e p q = absurd (omega arith)
       go up x (suc i) li within e p q = (
         x - 1,

@@ -1,5 +1,5 @@
--- The two orders. "Room a is directly left of b if one segment holds a's right edge and b's left edge. It is left of b if a chain of direct steps leads from a to b.
--- Above and below are formed likewise."
+-- The two orders. "Room a is directly left of b if one segment holds a's right edge and b's left edge. It is left of b if a chain
+-- of direct steps leads from a to b. Above and below are formed likewise."
 use mathlib.Core.List.{List}
 use Prim.Native.Nat.{ℕ, _<_}
 use lib.ListN.{length}

@@ -1,5 +1,6 @@
--- Rooms and the outline. "A room is four unsigned 16-bit numbers: left, bottom, right, top. Right is greater than left and top greater than bottom; y grows upward.
--- The outline is the smallest box round all rooms and may start anywhere." "The list may stand in any order."
+-- Rooms and the outline. "A room is four unsigned 16-bit numbers: left, bottom, right, top. Right is greater than left and top
+-- greater than bottom; y grows upward. The outline is the smallest box round all rooms and may start anywhere." "The list may stand
+-- in any order."
 use mathlib.Core.Path.{_≡_}
 use mathlib.Core.Logic.{_⊎_}
 use mathlib.Core.List.{List}

@@ -48,7 +48,8 @@ rooms-within-outline rooms i h = record {
 }
 
 -- and the outline lies in each box that all rooms lie in
-pub outline-is-smallest : (rooms : List Room) (box : Room) → 0 < length rooms → ((i : ℕ) → i < length rooms → Within box (roomIn rooms i)) → Within box (outline rooms)
+pub outline-is-smallest : (rooms : List Room) (box : Room) → 0 < length rooms → ((i : ℕ) → i < length rooms
+    → Within box (roomIn rooms i)) → Within box (outline rooms)
 outline-is-smallest rooms box some all = record {
   left = least-largest (λ i. roomIn rooms i .left) (length rooms) (box .left) some (λ i h. all i h .left);
   bottom = least-largest (λ i. roomIn rooms i .bottom) (length rooms) (box .bottom) some (λ i h. all i h .bottom);

@@ -1,4 +1,5 @@
--- The four sides of the outline are segments: along each an edge is drawn everywhere, and none is drawn past the outline. So the segment of an edge on the outline is the outline's side.
+-- The four sides of the outline are segments: along each an edge is drawn everywhere, and none is drawn past the outline. So the
+-- segment of an edge on the outline is the outline's side.
 use mathlib.Core.Path.{_≡_, refl, sym}
 use mathlib.Core.List.{List}
 use Prim.Native.Nat.{ℕ, _≤_, _<_}
@@ -39,11 +40,13 @@ module _ (rooms : List Room) (k : Floorplan (planOf rooms)) (some : 0 < length r
   outline-side bottomEdge = flat-side (outline rooms .bottom) (λ z lo hi. flat→drawn rooms (west-drawn (swap (planOf rooms)) (swap-floorplan k) tall z lo hi))
   outline-side topEdge = flat-side (outline rooms .top) (λ z lo hi. flat→drawn rooms (east-drawn (swap (planOf rooms)) (swap-floorplan k) tall z lo hi))
 
-pub on-outline→side : (rooms : List Room) → Floorplan (planOf rooms) → (side : Side) (i : ℕ) → i < length rooms → edge side (roomIn rooms i) .line ≡ edge side (outline rooms) .line
+pub on-outline→side : (rooms : List Room) → Floorplan (planOf rooms) → (side : Side) (i : ℕ) → i < length rooms
+    → edge side (roomIn rooms i) .line ≡ edge side (outline rooms) .line
     → segmentOf rooms side i ≡ edge side (outline rooms)
 on-outline→side rooms k side i h e = segment-only rooms k side i h (edge side (outline rooms)) (outline-side rooms k (omega arith) side) (held side e)
   where
-    held : (side : Side) → edge side (roomIn rooms i) .line ≡ edge side (outline rooms) .line → Holds (edge side (outline rooms)) (edge side (roomIn rooms i))
+    held : (side : Side) → edge side (roomIn rooms i) .line ≡ edge side (outline rooms) .line
+        → Holds (edge side (outline rooms)) (edge side (roomIn rooms i))
     held leftEdge e = record { direction = refl; line = sym e; from = k .fits i h .south; to = k .fits i h .north }
     held rightEdge e = record { direction = refl; line = sym e; from = k .fits i h .south; to = k .fits i h .north }
     held bottomEdge e = record { direction = refl; line = sym e; from = k .fits i h .west; to = k .fits i h .east }

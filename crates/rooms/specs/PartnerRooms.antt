@@ -21,7 +21,8 @@ module _ (rooms others : List Room) (k : Floorplan (planOf rooms)) (ko : Floorpl
   pub same-size : length rooms ≡ length others
   same-size = sym (length-label-list rooms k) ∙ ap length same ∙ length-label-list others ko
 
-  found : (a : ℕ) → a < length rooms → (partner rooms others a < length others) × (positionOf others (partner rooms others a) ≡ positionOf rooms a)
+  found : (a : ℕ) → a < length rooms
+      → (partner rooms others a < length others) × (positionOf others (partner rooms others a) ≡ positionOf rooms a)
   found a h = let r = positions-1-to-n rooms k .range a h in room-at-position others ko (positionOf rooms a) (omega arith) (omega (arith, same-size))
 
   pub partner< : (a : ℕ) → a < length rooms → partner rooms others a < length others

@@ -1,5 +1,5 @@
--- Accepted room lists with the same label list are equivalent: a segment's partner is the segment, over there, of the edge that its first unit edge is a piece of. It holds the partners of
--- all its edges, since edges on one segment stay on one segment.
+-- Accepted room lists with the same label list are equivalent: a segment's partner is the segment, over there, of the edge that its
+-- first unit edge is a piece of. It holds the partners of all its edges, since edges on one segment stay on one segment.
 use mathlib.Core.Path.{_≡_, refl, sym, ap, _∙_, subst}
 use mathlib.Core.Logic.{_↔_}
 use mathlib.Core.List.{List}
@@ -32,8 +32,11 @@ module _ (rooms others : List Room) (k : Floorplan (planOf rooms)) (ko : Floorpl
   top-bottom = far-near rooms others (swap (planOf rooms)) (swap (planOf others)) (swap-floorplan k) (swap-floorplan ko) bottomEdge topEdge (flat-pair rooms k) (flat-pair others ko) there back keeps-below
 
   -- an upright segment is no flat one
-  apart : (s t : Side) (a b : ℕ) → edge s (roomIn rooms a) .direction ≡ upright → edge t (roomIn rooms b) .direction ≡ flat → segmentOf rooms s a ≡ segmentOf rooms t b → ⊥
-  apart s t a b u v e = upright-is-not-flat (sym (segment-direction rooms s a ∙ u) ∙ ap (λ (x : Stretch). x .direction) e ∙ segment-direction rooms t b ∙ v)
+  apart : (s t : Side) (a b : ℕ) → edge s (roomIn rooms a) .direction ≡ upright → edge t (roomIn rooms b) .direction ≡ flat
+      → segmentOf rooms s a ≡ segmentOf rooms t b → ⊥
+  apart s t a b u v e =
+      upright-is-not-flat (sym (segment-direction rooms s a ∙ u) ∙ ap (λ (x : Stretch). x .direction) e
+      ∙ segment-direction rooms t b ∙ v)
 
   stay : (s t : Side) → Stay s t
   stay rightEdge leftEdge = right-left
@@ -57,7 +60,8 @@ module _ (rooms others : List Room) (k : Floorplan (planOf rooms)) (ko : Floorpl
 record Partners (rooms others : List Room) (there back : ℕ → ℕ) : Type 0 where
   there< : (a : ℕ) → a < length rooms → there a < length others
   back-there : (a : ℕ) → a < length rooms → back (there a) ≡ a
-  stays : (s t : Side) (a b : ℕ) → a < length rooms → b < length rooms → segmentOf rooms s a ≡ segmentOf rooms t b → segmentOf others s (there a) ≡ segmentOf others t (there b)
+  stays : (s t : Side) (a b : ℕ) → a < length rooms → b < length rooms → segmentOf rooms s a ≡ segmentOf rooms t b
+      → segmentOf others s (there a) ≡ segmentOf others t (there b)
 
 module _ (rooms others : List Room) (there : ℕ → ℕ) where
   chosen : (s : Stretch) → Dec (Drawn rooms (s .direction) (s .line) (s .from)) → Stretch
@@ -136,7 +140,8 @@ module _ (rooms others : List Room) (k : Floorplan (planOf rooms)) (ko : Floorpl
         });
   }
 
-pub same-labels→equivalent : (rooms others : List Room) → Floorplan (planOf rooms) → Floorplan (planOf others) → labelList rooms ≡ labelList others → Equivalent rooms others
+pub same-labels→equivalent : (rooms others : List Room) → Floorplan (planOf rooms) → Floorplan (planOf others)
+    → labelList rooms ≡ labelList others → Equivalent rooms others
 same-labels→equivalent rooms others k ko same =
     let there = partner rooms others in
     let back = partner others rooms in

@@ -1,5 +1,6 @@
--- A floorplan as functions of a room's number, the form in which the proofs speak of it: to swap x and y takes "left of" to "below" and back, so a fact about
--- columns is a fact about rows of the swapped plan. Instead of a segment there is a line on which each unit edge is drawn.
+-- A floorplan as functions of a room's number, the form in which the proofs speak of it: to swap x and y takes "left of" to "below"
+-- and back, so a fact about columns is a fact about rows of the swapped plan. Instead of a segment there is a line on which each
+-- unit edge is drawn.
 use mathlib.Core.Path.{_≡_}
 use mathlib.Core.Logic.{_⊎_}
 use Prim.Native.Nat.{ℕ, _-_, _≤_, _<_, min, max}

@@ -30,7 +30,8 @@ planOf rooms = record {
 }
 
 -- a room of positive size fits in its list's outline
-pub size→fits : (rooms : List Room) (i : ℕ) → i < length rooms → roomIn rooms i .left < roomIn rooms i .right → roomIn rooms i .bottom < roomIn rooms i .top → Fits (planOf rooms) i
+pub size→fits : (rooms : List Room) (i : ℕ) → i < length rooms → roomIn rooms i .left < roomIn rooms i .right
+    → roomIn rooms i .bottom < roomIn rooms i .top → Fits (planOf rooms) i
 size→fits rooms i h wide tall = let w = rooms-within-outline rooms i h in record {
   wide = wide;
   tall = tall;

@@ -1,5 +1,5 @@
--- Labels and positions are 1 plus ranks in the two orders, so both are 1 to n, each once, and together they tell left and below. The labels by position have none of the patterns 3-14-2
--- and 2-41-3.
+-- Labels and positions are 1 plus ranks in the two orders, so both are 1 to n, each once, and together they tell left and below.
+-- The labels by position have none of the patterns 3-14-2 and 2-41-3.
 use mathlib.Core.Path.{_≡_, refl, sym, ap, _∙_}
 use mathlib.Core.Logic.{_≢_, inl, inr}
 use mathlib.Core.List.{List}
@@ -83,7 +83,8 @@ module _ (rooms : List Room) (k : Floorplan (planOf rooms)) where
     ]
 
   -- ---- the room at a position, and the label list
-  pub room-at-position : (p : ℕ) → 1 ≤ p → p ≤ length rooms → (roomAtPosition rooms p < length rooms) × (positionOf rooms (roomAtPosition rooms p) ≡ p)
+  pub room-at-position : (p : ℕ) → 1 ≤ p → p ≤ length rooms
+      → (roomAtPosition rooms p < length rooms) × (positionOf rooms (roomAtPosition rooms p) ≡ p)
   unfolding roomAtPosition
   room-at-position p lo hi = pick-has (dec-some (λ i. positionOf rooms i ≡ p) (λ i. ℕ-discrete (positionOf rooms i) p) 0 (length rooms)) (positions-1-to-n .each p lo hi)
 

@@ -1,5 +1,6 @@
--- The relations of an accepted room list. "For two different rooms exactly one of left, right, above, below holds (000, Observation 3.3)." A room is directly left of another exactly if it is
--- left of it with no room between, so the order alone tells the direct steps.
+-- The relations of an accepted room list. "For two different rooms exactly one of left, right, above, below holds (000, Observation
+-- 3.3)." A room is directly left of another exactly if it is left of it with no room between, so the order alone tells the direct
+-- steps.
 use mathlib.Core.Path.{_≡_, refl}
 use mathlib.Core.Logic.{_≢_, _↔_}
 use mathlib.Core.List.{List}
@@ -76,14 +77,16 @@ module _ (rooms : List Room) (accepted : AcceptedRooms rooms) where
           only Below s = absurd (orders .across-asym r s)
 
   -- directly left exactly if left with no room between
-  pub directly-left-iff-none-between : (a b : ℕ) → DirectlyLeft rooms a b ↔ (LeftOf rooms a b × ((c : ℕ) → LeftOf rooms a c → ¬ LeftOf rooms c b))
+  pub directly-left-iff-none-between : (a b : ℕ) → DirectlyLeft rooms a b ↔ (LeftOf rooms a b × ((c : ℕ) → LeftOf rooms a c
+      → ¬ LeftOf rooms c b))
   directly-left-iff-none-between a b = (
     λ d. (one d, λ c r q. left-step→none-between k (directly-left→step rooms a b d) c (left-of→left rooms r) (left-of→left rooms q)),
     λ (r, none). step→directly-left rooms k a b (none-between→left-step (left-of→left rooms r) (λ c u v. none c (left→left-of rooms k u) (left→left-of rooms k v))),
   )
 
   -- directly below exactly if below with no room between
-  pub directly-below-iff-none-between : (a b : ℕ) → DirectlyBelow rooms a b ↔ (BelowOf rooms a b × ((c : ℕ) → BelowOf rooms a c → ¬ BelowOf rooms c b))
+  pub directly-below-iff-none-between : (a b : ℕ) → DirectlyBelow rooms a b ↔ (BelowOf rooms a b × ((c : ℕ) → BelowOf rooms a c
+      → ¬ BelowOf rooms c b))
   directly-below-iff-none-between a b = (
     λ d. (one d, λ c r q. left-step→none-between (swap-floorplan k) (directly-below→step rooms a b d) c (below-of→below rooms r) (below-of→below rooms q)),
     λ (r, none). step→directly-below rooms k a b (none-between→left-step (below-of→below rooms r) (λ c u v. none c (below→below-of rooms k u) (below→below-of rooms k v))),

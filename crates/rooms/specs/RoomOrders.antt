@@ -15,7 +15,8 @@ use Rattle.rooms.specs.TwoOrders.{Related, along, along-back, across, ac
 use Rattle.rooms.specs.FourRelations.{related, left-asym}
 use Rattle.rooms.specs.Steps.{left-of→left, left→left-of, below-of→below, below→below-of, above-of→below-of, below-of→above-of}
 
-pub chain-in-list : {rooms : List Room} {of-a of-b : Side} {a b : ℕ} → Chain (OneSegment rooms of-a of-b) a b → (a < length rooms) × (b < length rooms)
+pub chain-in-list : {rooms : List Room} {of-a of-b : Side} {a b : ℕ} → Chain (OneSegment rooms of-a of-b) a b
+    → (a < length rooms) × (b < length rooms)
 chain-in-list (one d) = (d .a<, d .b<)
 chain-in-list (step r d) = (chain-in-list r .0, d .b<)
 

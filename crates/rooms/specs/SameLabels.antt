@@ -1,4 +1,5 @@
--- Equivalent room lists have one label list: direct steps are stated by segments, so they carry over, and with them chains, counts, labels and positions.
+-- Equivalent room lists have one label list: direct steps are stated by segments, so they carry over, and with them chains, counts,
+-- labels and positions.
 use mathlib.Core.Path.{_≡_, sym, ap, _∙_, subst₂}
 use mathlib.Core.Logic.{inl, inr}
 use mathlib.Core.List.{List}
@@ -66,7 +67,8 @@ equivalent-sym {rooms} {others} e = record {
     roomBack = e .pair-rooms .from
 
 module _ (rooms others : List Room) (e : Equivalent rooms others) where
-  equivalent→keeps-one-segment : (of-a of-b : Side) (a b : ℕ) → OneSegment rooms of-a of-b a b → OneSegment others of-a of-b (e .pair-rooms .to a) (e .pair-rooms .to b)
+  equivalent→keeps-one-segment : (of-a of-b : Side) (a b : ℕ) → OneSegment rooms of-a of-b a b
+      → OneSegment others of-a of-b (e .pair-rooms .to a) (e .pair-rooms .to b)
   equivalent→keeps-one-segment of-a of-b a b d = record {
     a< = e .pair-rooms .to-has a (d .a<);
     b< = e .pair-rooms .to-has b (d .b<);
@@ -84,8 +86,10 @@ module _ (rooms others : List Room) (e : Equivalent rooms others) where
     above = λ a b r. chain-map (e .pair-rooms .to) (equivalent→keeps-one-segment bottomEdge topEdge) r;
   }
 
-pub equivalent→same-labels : (rooms others : List Room) → Floorplan (planOf rooms) → Floorplan (planOf others) → Equivalent rooms others → labelList rooms ≡ labelList others
-equivalent→same-labels rooms others k ko e = ext-getD 0 (labelList rooms) (labelList others) (length-label-list rooms k ∙ size ∙ sym (length-label-list others ko))
+pub equivalent→same-labels : (rooms others : List Room) → Floorplan (planOf rooms) → Floorplan (planOf others)
+    → Equivalent rooms others → labelList rooms ≡ labelList others
+equivalent→same-labels rooms others k ko e =
+    ext-getD 0 (labelList rooms) (labelList others) (length-label-list rooms k ∙ size ∙ sym (length-label-list others ko))
     (λ i h. same i (omega (arith, length-label-list rooms k)))
   where
     there : ℕ → ℕ

@@ -1,5 +1,5 @@
--- Which edges lie on one segment is told by "left of" alone: two right edges do if both are on the outline, which no room is right of, or some room is directly right of both. So maps
--- that keep "left of" both ways keep it.
+-- Which edges lie on one segment is told by "left of" alone: two right edges do if both are on the outline, which no room is right
+-- of, or some room is directly right of both. So maps that keep "left of" both ways keep it.
 use mathlib.Core.Path.{_≡_, sym, ap, _∙_, subst}
 use mathlib.Core.Logic.{inl, inr}
 use mathlib.Core.List.{List}
@@ -60,7 +60,8 @@ module _ (rooms others : List Room) (p q : Plan) (k : Floorplan p) (kq : Floorpl
       (subst (λ (z : ℕ). Left p z (back m)) (c .back-there a (d .a<)) (c .keeps-back (there a) m x))
       (subst (λ (z : ℕ). Left p (back m) z) (c .back-there b (d .b<)) (c .keeps-back m (there b) y)))
 
-  pub far-near : (a b : ℕ) → a < p .count → b < p .count → segmentOf rooms far a ≡ segmentOf rooms near b → segmentOf others far (there a) ≡ segmentOf others near (there b)
+  pub far-near : (a b : ℕ) → a < p .count → b < p .count → segmentOf rooms far a ≡ segmentOf rooms near b
+      → segmentOf others far (there a) ≡ segmentOf others near (there b)
   far-near a b ha hb e = v .step→same (there a) (there b) (keeps-step a b (u .same→step a b ha hb e))
 
   -- no room is right of a, on the far side; so it is on the far side over there
@@ -80,7 +81,8 @@ module _ (rooms others : List Room) (p q : Plan) (k : Floorplan p) (kq : Floorpl
         omega (arith, left→right≤left k l, k .fits (back m) (c .back< m hm)))
   ]
 
-  pub far-far : (a b : ℕ) → a < p .count → b < p .count → segmentOf rooms far a ≡ segmentOf rooms far b → segmentOf others far (there a) ≡ segmentOf others far (there b)
+  pub far-far : (a b : ℕ) → a < p .count → b < p .count → segmentOf rooms far a ≡ segmentOf rooms far b
+      → segmentOf others far (there a) ≡ segmentOf others far (there b)
   far-far a b ha hb e = elim (eq-or-lt-of-le (k .fits a ha .east)) [
     | inl t ↦ v .far-outer (there a) (c .there< a ha) (far-on-outline a ha t) ∙ sym (v .far-outer (there b) (c .there< b hb) (far-on-outline b hb (sym (u .far-line a b e) ∙ t)))
     | inr t ↦
@@ -89,7 +91,8 @@ module _ (rooms others : List Room) (p q : Plan) (k : Floorplan p) (kq : Floorpl
         far-near a m ha hm w ∙ sym (far-near b m hb hm (sym e ∙ w))
   ]
 
-  pub near-near : (a b : ℕ) → a < p .count → b < p .count → segmentOf rooms near a ≡ segmentOf rooms near b → segmentOf others near (there a) ≡ segmentOf others near (there b)
+  pub near-near : (a b : ℕ) → a < p .count → b < p .count → segmentOf rooms near a ≡ segmentOf rooms near b
+      → segmentOf others near (there a) ≡ segmentOf others near (there b)
   near-near a b ha hb e = elim (eq-or-lt-of-le (k .fits a ha .west)) [
     | inl t ↦ v .near-outer (there a) (c .there< a ha) (near-on-outline a ha (sym t)) ∙ sym (v .near-outer (there b) (c .there< b hb) (near-on-outline b hb (sym (u .near-line a b e) ∙ sym t)))
     | inr t ↦

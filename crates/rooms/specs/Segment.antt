@@ -1,5 +1,6 @@
--- Segments. "A segment is a longest unbroken straight run of room edges; the four outline sides are segments too. It supports a room from the side on which it
--- holds that room's edge." In an accepted list the outline's sides are such runs: that is the theorem `outline-sides-are-segments`.
+-- Segments. "A segment is a longest unbroken straight run of room edges; the four outline sides are segments too. It supports a
+-- room from the side on which it holds that room's edge." In an accepted list the outline's sides are such runs: that is the
+-- theorem `outline-sides-are-segments`.
 use mathlib.Core.Path.{_≡_}
 use mathlib.Core.Logic.{_⊎_}
 use mathlib.Core.List.{List}
@@ -26,7 +27,8 @@ Drawn rooms upright line z =
 Drawn rooms flat line z =
     SomeRoom rooms (λ i. ((roomIn rooms i .bottom ≡ line) ⊎ (roomIn rooms i .top ≡ line)) × (roomIn rooms i .left ≤ z) × (z < roomIn rooms i .right))
 
--- "a longest unbroken straight run of room edges": each unit edge of the stretch is drawn, and neither the next one after it nor the last one before it is
+-- "a longest unbroken straight run of room edges": each unit edge of the stretch is drawn, and neither the next one after it nor
+-- the last one before it is
 pub record Segment (rooms : List Room) (s : Stretch) : Type 0 where
   pub some : s .from < s .to
   pub unbroken : Each (Drawn rooms (s .direction) (s .line)) (s .from) (s .to)

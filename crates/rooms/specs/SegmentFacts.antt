@@ -1,4 +1,5 @@
--- Segments of an accepted room list: each edge of a room lies on exactly one, each holds an edge of a room, no two cross, and "the four outline sides are segments too".
+-- Segments of an accepted room list: each edge of a room lies on exactly one, each holds an edge of a room, no two cross, and "the
+-- four outline sides are segments too".
 use mathlib.Core.Path.{_≡_, subst}
 use mathlib.Core.Logic.{_≢_, inl}
 use mathlib.Core.List.{List}

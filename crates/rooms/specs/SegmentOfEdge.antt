@@ -27,7 +27,8 @@ module _ (rooms : List Room) where
     to = runEnd (Drawn rooms (s .direction) (s .line)) (dec-drawn rooms (s .direction) (s .line)) (limit rooms - s .to) (s .to);
   }
 
-  pub drawn→lengthened-segment : (s : Stretch) → s .from < s .to → Each (Drawn rooms (s .direction) (s .line)) (s .from) (s .to) → Segment rooms (lengthened s) × Holds (lengthened s) s
+  pub drawn→lengthened-segment : (s : Stretch) → s .from < s .to → Each (Drawn rooms (s .direction) (s .line)) (s .from) (s .to)
+      → Segment rooms (lengthened s) × Holds (lengthened s) s
   unfolding lengthened
   drawn→lengthened-segment s h f =
       let start = run-start P (dec-drawn rooms (s .direction) (s .line)) (s .from) in
@@ -50,7 +51,8 @@ module _ (rooms : List Room) where
       past-limit : ¬ P (s .to + (limit rooms - s .to))
       past-limit q = omega (arith, drawn→before-limit rooms (s .direction) (s .line) (s .to + (limit rooms - s .to)) q)
 
-  overlap→within : (s t : Stretch) → Segment rooms s → Segment rooms t → s .direction ≡ t .direction → s .line ≡ t .line → (z : ℕ) → s .from ≤ z → z < s .to → t .from ≤ z → z < t .to
+  overlap→within : (s t : Stretch) → Segment rooms s → Segment rooms t → s .direction ≡ t .direction → s .line ≡ t .line
+      → (z : ℕ) → s .from ≤ z → z < s .to → t .from ≤ z → z < t .to
       → (t .from ≤ s .from) × (s .to ≤ t .to)
   overlap→within s t u v p q z a b c e = (
     elim (le-or-lt (t .from) (s .from)) [
@@ -64,7 +66,8 @@ module _ (rooms : List Room) where
       moved x h = subst₂ (λ (d : Direction) (l : ℕ). Drawn rooms d l x) p q h
 
   -- two segments that share a unit edge are one
-  pub overlap→one-segment : (s t : Stretch) → Segment rooms s → Segment rooms t → s .direction ≡ t .direction → s .line ≡ t .line → (z : ℕ) → s .from ≤ z → z < s .to → t .from ≤ z → z < t .to → s ≡ t
+  pub overlap→one-segment : (s t : Stretch) → Segment rooms s → Segment rooms t → s .direction ≡ t .direction → s .line ≡ t .line
+      → (z : ℕ) → s .from ≤ z → z < s .to → t .from ≤ z → z < t .to → s ≡ t
   overlap→one-segment s t u v p q z a b c e =
       let g = overlap→within s t u v p q z a b c e in
       let h = overlap→within t s v u (sym p) (sym q) z c e a b in
@@ -98,26 +101,31 @@ module _ (rooms : List Room) where
     edge-some topEdge i h = k .fits i h .wide
 
     -- it is a segment, it holds the edge
-    pub segment-holds : (side : Side) (i : ℕ) → i < length rooms → Segment rooms (segmentOf side i) × Holds (segmentOf side i) (edge side (roomIn rooms i))
+    pub segment-holds : (side : Side) (i : ℕ) → i < length rooms
+        → Segment rooms (segmentOf side i) × Holds (segmentOf side i) (edge side (roomIn rooms i))
     unfolding segmentOf
     segment-holds side i h = drawn→lengthened-segment (edge side (roomIn rooms i)) (edge-some side i h) (edge-drawn side i h)
 
     -- and no other segment does
-    pub segment-only : (side : Side) (i : ℕ) → i < length rooms → (s : Stretch) → Segment rooms s → Holds s (edge side (roomIn rooms i)) → segmentOf side i ≡ s
+    pub segment-only : (side : Side) (i : ℕ) → i < length rooms → (s : Stretch) → Segment rooms s
+        → Holds s (edge side (roomIn rooms i)) → segmentOf side i ≡ s
     segment-only side i h s g o =
         let (u, v) = segment-holds side i h in
         let l = edge-some side i h in
         overlap→one-segment (segmentOf side i) s u g (v .direction ∙ sym (o .direction)) (v .line ∙ sym (o .line)) (edge side (roomIn rooms i) .from) (v .from) (omega (arith, v .to)) (o .from) (omega (arith, o .to))
 
     -- one segment holds two edges exactly if the edges have the same segment
-    pub same→one-segment : (of-a of-b : Side) (a b : ℕ) → a < length rooms → b < length rooms → segmentOf of-a a ≡ segmentOf of-b b → OneSegment rooms of-a of-b a b
+    pub same→one-segment : (of-a of-b : Side) (a b : ℕ) → a < length rooms → b < length rooms
+        → segmentOf of-a a ≡ segmentOf of-b b → OneSegment rooms of-a of-b a b
     same→one-segment of-a of-b a b ha hb p =
         let (u, v) = segment-holds of-a a ha in
         let w = segment-holds of-b b hb .1 in
         record { a< = ha; b< = hb; by = segmentOf of-a a; segment = u; holds-a = v; holds-b = subst (λ (s : Stretch). Holds s (edge of-b (roomIn rooms b))) (sym p) w }
 
     pub one-segment→same : (of-a of-b : Side) (a b : ℕ) → OneSegment rooms of-a of-b a b → segmentOf of-a a ≡ segmentOf of-b b
-    one-segment→same of-a of-b a b d = segment-only of-a a (d .a<) (d .by) (d .segment) (d .holds-a) ∙ sym (segment-only of-b b (d .b<) (d .by) (d .segment) (d .holds-b))
+    one-segment→same of-a of-b a b d =
+        segment-only of-a a (d .a<) (d .by) (d .segment) (d .holds-a)
+        ∙ sym (segment-only of-b b (d .b<) (d .by) (d .segment) (d .holds-b))
 
     -- two edges on one line have one segment if each unit edge from the first to the last of theirs is drawn
     pub line→one-segment : (of-a of-b : Side) (a b : ℕ) → a < length rooms → b < length rooms → let e = edge of-a (roomIn rooms a) in let f = edge of-b (roomIn rooms b) in
@@ -129,7 +137,14 @@ module _ (rooms : List Room) where
           b< = hb;
           by = lengthened s;
           segment = u;
-          holds-a = record { direction = v .direction ∙ sym p; line = v .line ∙ sym q; from = omega (arith, v .from); to = omega (arith, v .to) };
+          holds-a =
+              record {
+                direction = v .direction ∙ sym p;
+                line = v .line
+                    ∙ sym q;
+                from = omega (arith, v .from);
+                to = omega (arith, v .to);
+              };
           holds-b = record { direction = v .direction; line = v .line; from = omega (arith, v .from); to = omega (arith, v .to) };
         }
       where

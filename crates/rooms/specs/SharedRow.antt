@@ -1,4 +1,5 @@
--- Rooms side by side: the rooms next to a room, and that two rooms which share a row of unit squares are left and right of one another: walk along the row.
+-- Rooms side by side: the rooms next to a room, and that two rooms which share a row of unit squares are left and right of one
+-- another: walk along the row.
 use mathlib.Core.Path.{_≡_, refl, sym, subst}
 use mathlib.Core.Logic.{_≢_, _⊎_, inl, inr}
 use Prim.Native.Nat.{ℕ, zero, suc, _-_, _≤_, _<_, min, max, zero-le}
@@ -21,7 +22,8 @@ module _ (p : Plan) (k : Floorplan p) where
   pub adjacent→left-step : (a b y : ℕ) → a < count → b < count → right a ≡ left b → InRow p a y → InRow p b y → LeftStep p a b
   adjacent→left-step a b y ha hb meet ya yb = record { a< = ha; b< = hb; meet = meet; line = λ z lo hi. go z lo hi (le-or-lt (bottom a) z) (le-or-lt (top a) z) }
     where
-      go : (z : ℕ) → min (bottom a) (bottom b) ≤ z → z < max (top a) (top b) → (bottom a ≤ z) ⊎ (z < bottom a) → (top a ≤ z) ⊎ (z < top a) → UprightEdge p (left b) z
+      go : (z : ℕ) → min (bottom a) (bottom b) ≤ z → z < max (top a) (top b) → (bottom a ≤ z) ⊎ (z < bottom a)
+          → (top a ≤ z) ⊎ (z < top a) → UprightEdge p (left b) z
       go z lo hi (inl h) (inr g) = (a, zero-le, ha, record { side = inr meet; bottom = h; top = g })
       go z lo hi (inr h) q = (b, zero-le, hb, record { side = inl refl; bottom = omega arith; top = omega arith })
       go z lo hi (inl h) (inl g) = (b, zero-le, hb, record { side = inl refl; bottom = omega arith; top = omega arith })

@@ -1,5 +1,5 @@
--- No room is both right of a room a and above it. A staircase goes up from a's upper-right corner: straight up where an edge is drawn, else to the right as far as edges are drawn. The
--- rooms right of a stay on its right, those above a on its left.
+-- No room is both right of a room a and above it. A staircase goes up from a's upper-right corner: straight up where an edge is
+-- drawn, else to the right as far as edges are drawn. The rooms right of a stay on its right, those above a on its left.
 use mathlib.Core.Path.{_≡_, refl, sym, ap, subst}
 use mathlib.Core.Logic.{inl, inr}
 use Prim.Native.Nat.{ℕ, zero, suc, _+_, _-_, _≤_, _<_, zero-le}
@@ -57,7 +57,8 @@ module _ (p : Plan) (k : Floorplan p) where
         ]
 
     -- an upright line on its right that goes on into row y stays on its right
-    turn-before-line : {z : ℕ} (line : ℕ) → west < x → x ≤ line → line ≤ east → south < y → y < north → UprightEdge p line (y - 1) → UprightEdge p line y → Turn x y z → z ≤ line
+    turn-before-line : {z : ℕ} (line : ℕ) → west < x → x ≤ line → line ≤ east → south < y → y < north
+        → UprightEdge p line (y - 1) → UprightEdge p line y → Turn x y z → z ≤ line
     turn-before-line line a b c d e v w (straight f) = b
     turn-before-line {z} line a b c d e v w (aside none r) = elim (le-or-lt z line) [
       | inl h ↦ h
@@ -68,7 +69,8 @@ module _ (p : Plan) (k : Floorplan p) where
     ]
 
     -- a flat line at y that comes from its left ends on its left
-    turn-past-line : {z : ℕ} (end : ℕ) → west < x → x ≤ east → end ≤ east → south < y → y < north → UprightEdge p x (y - 1) → ((c : ℕ) → x ≤ suc c → c < end → FlatEdge p c y) → Turn x y z → end ≤ z
+    turn-past-line : {z : ℕ} (end : ℕ) → west < x → x ≤ east → end ≤ east → south < y → y < north → UprightEdge p x (y - 1)
+        → ((c : ℕ) → x ≤ suc c → c < end → FlatEdge p c y) → Turn x y z → end ≤ z
     turn-past-line end a b c d e v line (straight w) = elim (le-or-lt end x) [
       | inl h ↦ h
       | inr h ↦ absurd (k .no-cross x y (omega arith) v w (line (x - 1) (omega arith) (omega arith)) (line x (omega arith) h))
@@ -118,7 +120,8 @@ module _ (p : Plan) (k : Floorplan p) (a : ℕ) (ha : a < p .count) where
   ]
 
   -- an upright line that is right of the staircase in one row is so in every row above that it reaches
-  stair-before-line : (line i j : ℕ) → i ≤ j → top a + j ≤ north → stair i ≤ line → line ≤ east → ((y : ℕ) → top a + i ≤ suc y → y < top a + j → UprightEdge p line y) → stair j ≤ line
+  stair-before-line : (line i j : ℕ) → i ≤ j → top a + j ≤ north → stair i ≤ line → line ≤ east → ((y : ℕ) → top a + i ≤ suc y
+      → y < top a + j → UprightEdge p line y) → stair j ≤ line
   stair-before-line line i zero l h from to drawn = omega (arith, ap stair (le-antisymm l zero-le))
   stair-before-line line i (suc j) l h from to drawn = elim (eq-or-lt-of-le l) [
     | inl q ↦ omega (arith, ap stair q)

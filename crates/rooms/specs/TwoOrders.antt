@@ -1,5 +1,5 @@
--- Two relations of which exactly one holds, one way or the other, between two different numbers below n: then "along or across" is a strict total order. For room lists along is
--- "left of", and across is "below" for positions and "above" for labels.
+-- Two relations of which exactly one holds, one way or the other, between two different numbers below n: then "along or across" is
+-- a strict total order. For room lists along is "left of", and across is "below" for positions and "above" for labels.
 use mathlib.Core.Path.{sym, subst}
 use mathlib.Core.Logic.{_≢_, _⊎_, inl, inr}
 use Prim.Native.Nat.{ℕ, _<_}
@@ -26,7 +26,8 @@ pub record TwoOrders (n : ℕ) (Along Across : ℕ → ℕ → Type 0) : Type 0 
   pub related : (a b : ℕ) → a < n → b < n → a ≢ b → Related Along Across a b
 
 -- across the other way
-abbrev pub turned : {n : ℕ} {Along Across Back : ℕ → ℕ → Type 0} → ((a b : ℕ) → Dec (Back a b)) → ((a b : ℕ) → Across a b → Back b a) → ((a b : ℕ) → Back a b → Across b a)
+abbrev pub turned : {n : ℕ} {Along Across Back : ℕ → ℕ → Type 0} → ((a b : ℕ) → Dec (Back a b)) → ((a b : ℕ) → Across a b
+    → Back b a) → ((a b : ℕ) → Back a b → Across b a)
     → TwoOrders n Along Across → TwoOrders n Along Back
 turned {Along = Along} {Across} {Back} dec to from c = record {
   dec-along = c .dec-along;

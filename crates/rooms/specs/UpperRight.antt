@@ -1,5 +1,6 @@
--- A room b to the upper right of a room a: a is left of b or below b. By induction on how far up and to the right b lies. At b's lower-left corner a line ends on another: where the
--- upright line goes on downward, the room under b stands on b's line and is nearer to a; else the same holds with x and y swapped. UpsideDown has the lower right.
+-- A room b to the upper right of a room a: a is left of b or below b. By induction on how far up and to the right b lies. At b's
+-- lower-left corner a line ends on another: where the upright line goes on downward, the room under b stands on b's line and is
+-- nearer to a; else the same holds with x and y swapped. UpsideDown has the lower right.
 use mathlib.Core.Path.{refl, sym, ap, subst}
 use mathlib.Core.Logic.{_≢_, _⊎_, inl, inr}
 use Prim.Native.Nat.{ℕ, zero, suc, _+_, _-_, _≤_, _<_, zero-le}
@@ -41,7 +42,8 @@ module _ (p : Plan) (k : Floorplan p) where
 module _ (p : Plan) (k : Floorplan p) where
   open Plan p using (count, left, bottom, right, top)
 
-  upper-right-within : (far a b : ℕ) → left b + bottom b ≤ far → a < count → b < count → right a ≤ left b → top a ≤ bottom b → Left p a b ⊎ Below p a b
+  upper-right-within : (far a b : ℕ) → left b + bottom b ≤ far → a < count → b < count → right a ≤ left b → top a ≤ bottom b
+      → Left p a b ⊎ Below p a b
   upper-right-within zero a b l ha hb before under = absurd (omega (arith, k .fits a ha))
   upper-right-within (suc far) a b l ha hb before under =
       let fa = k .fits a ha in

@@ -95,7 +95,8 @@ module _ (p : Plan) (k : Floorplan p) where
       back : Flipped (flip p) p north
       back = flipped-sym flipped
 
-      no-cross-at : (x y z : ℕ) → y + z ≡ north → Inner (flip p) x y → UprightEdge (flip p) x (y - 1) → UprightEdge (flip p) x y → FlatEdge (flip p) (x - 1) y → FlatEdge (flip p) x y → ⊥
+      no-cross-at : (x y z : ℕ) → y + z ≡ north → Inner (flip p) x y → UprightEdge (flip p) x (y - 1) → UprightEdge (flip p) x y
+          → FlatEdge (flip p) (x - 1) y → FlatEdge (flip p) x y → ⊥
       no-cross-at x y z e h low high near far =
           k .no-cross x z (record { left = h .left; right = h .right; bottom = omega (arith, h .top); top = omega (arith, h .bottom) })
           (flip-upright back x y (z - 1) (omega (arith, h .top)) high) (flip-upright back x (y - 1) z (omega (arith, h .bottom)) low) (flip-flat back (x - 1) y z e near) (flip-flat back x y z e far)

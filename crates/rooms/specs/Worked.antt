@@ -52,7 +52,8 @@ pinwheel-labels : (labelList pinwheel ≡ 4 ∷ 1 ∷ 3 ∷ 5 ∷ 2 ∷ []) × (
 unfolding labelList
 pinwheel-labels = (refl, refl)
 
--- "a far room with smaller x may be above or below instead": two rows, where the upper left room is above the lower right one and ends before it starts
+-- "a far room with smaller x may be above or below instead": two rows, where the upper left room is above the lower right one and
+-- ends before it starts
 two-rows-labels : labelList (room 0 1 1 2 ∷ room 1 1 3 2 ∷ room 0 0 2 1 ∷ room 2 0 3 1 ∷ []) ≡ 3 ∷ 4 ∷ 1 ∷ 2 ∷ []
 unfolding labelList
 two-rows-labels = refl

@@ -34,7 +34,8 @@ unfolding decimal digitsIn
 decimal-more zero h = absurd (omega arith)
 decimal-more (suc number) h =
     if-neg (decLt (suc number) 10) (λ small. omega arith) _ _
-    ∙ ap (λ (l : List ℕ). l ++ (digit (suc number % 10) ∷ [])) (turns-same number (suc number / 10) (suc number / 10) (omega arith) (omega arith))
+    ∙ ap (λ (l : List ℕ). l ++ (digit (suc number % 10) ∷ []))
+    (turns-same number (suc number / 10) (suc number / 10) (omega arith) (omega arith))
 
 pub length-more : (number : ℕ) → 10 ≤ number → length (decimal number) ≡ length (decimal (number / 10)) + 1
 length-more number h = ap length (decimal-more number h) ∙ length-append (decimal (number / 10)) (digit (number % 10) ∷ [])

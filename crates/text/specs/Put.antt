@@ -1,4 +1,4 @@
--- What the inner functions' contracts cite: how a text grows by a part, and rooms whose corners stand in four lists.
+-- How a text grows by a part: what the inner functions' contracts cite.
 use mathlib.Core.List.{List, _++_}
 use mathlib.Core.Path.{_≡_}
 use Prim.Native.Nat.{ℕ, _+_}

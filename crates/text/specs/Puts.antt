@@ -5,9 +5,8 @@ use Prim.Native.Nat.{ℕ, _+_, _≤_, _<_}
 use native.Mathlib.Omega.{arith}
 use native.Mathlib.Numerals.{add-one}
 use lib.ListN.{length, take, set, length-set, length-append, length-take}
-use lib.Seq.{take-suc-set, paste, take-paste, length-paste, take-length}
+use lib.Seq.{take-suc-set}
 use Rattle.io.specs.Counts.{Counts}
-use Rattle.text.specs.Decimal.{decimal}
 use Rattle.text.specs.Put.{Put}
 
 -- nothing is put
@@ -17,14 +16,6 @@ put-none text at = record { next = omega arith; front = sym (append-nil (take at
 -- one byte, stored
 pub put-one : (text : List ℕ) (at byte : ℕ) → at < length text → Put text at (byte ∷ []) (set text at byte) (at + 1)
 put-one text at byte h = record { next = refl; front = rw (add-one at) (take-suc-set text at byte h); size = length-set text at byte }
-
--- a whole word, pasted
-pub put-pasted : (text : List ℕ) (at : ℕ) (word : List ℕ) → at + length word ≤ length text → Put text at word (paste text at word (length word)) (at + length word)
-put-pasted text at word h = record {
-  next = refl;
-  front = take-paste text at word (length word) (omega arith) (omega arith) ∙ ap (λ (l : List ℕ). take at text ++ l) (take-length word);
-  size = length-paste text at word (length word) h (omega arith);
-}
 
 module _ {before middle after part rest : List ℕ} {at next end : ℕ} where
   -- one part after the other
@@ -39,10 +30,7 @@ module _ {before middle after part rest : List ℕ} {at next end : ℕ} where
 pub put-as : {before after part other : List ℕ} {at end : ℕ} → part ≡ other → Put before at part after end → Put before at other after end
 put-as {before} {after} {part} {other} {at} {end} e p = subst (λ (l : List ℕ). Put before at l after end) e p
 
--- a word and a number, which has another name
-pub put-value-as : {before after : List ℕ} {at end number other : ℕ} (word : List ℕ) → Put before at (word ++ decimal number) after end → number ≡ other → Put before at (word ++ decimal other) after end
-put-value-as word p e = put-as (ap (λ (n : ℕ). word ++ decimal n) e) p
-
--- a text that ends within its store can be taken from it
-pub put-counts : {before after part : List ℕ} {at end : ℕ} → end ≤ length before → Put before at part after end → Counts end after
-put-counts {before} {after} {part} {at} {end} h p = (omega (arith, p .size), omega (arith, p .size, length-take end after))
+-- a text that is put from the front, and ends within its store, is all there
+pub put-whole : {before after part whole : List ℕ} {end : ℕ} → end ≤ length before → part ≡ whole → Put before 0 part after end
+    → (take end after ≡ whole) × Counts end after
+put-whole {after = after} {end = end} h e p = (p .front ∙ e, (omega (arith, p .size), omega (arith, p .size, length-take end after)))

@@ -1,4 +1,5 @@
--- What a program prints for a record: its plan in the program's own view, or the line of its refusal. "A refused record prints `refused` and the number on one line."
+-- What a program prints for a record: its plan in the program's own view, or the line of its refusal.
+-- "A refused record prints `refused` and the number on one line."
 use mathlib.Core.List.{List}
 use Prim.Native.Nat.{ℕ}
 use lib.ListN.{length}

@@ -16,14 +16,16 @@ use Rattle.record.specs.declared.Refusal.{Refusal}
 use Rattle.drawing.specs.Corners.{leftsOf, bottomsOf, rightsOf, topsOf, roomIn}
 use Rattle.drawing.specs.Drawing.{leftAt, bottomAt, rightAt, topAt, roomAt}
 use Rattle.drawing.specs.declared.Room.{Room}
-use Rattle.answers.specs.Answer.{Short, dec-short, recordAnswer, written}
+use Rattle.answers.specs.Answer.{Short, dec-short, Few, recordAnswer, written}
 use Rattle.answers.specs.declared.RecordAnswer.{RecordAnswer}
 use Rattle.answers.specs.declared.RecordAnswer.the-variants.{Read, Refused}
 use Rattle.text.specs.View.{View, viewOf, printed, refusedLine}
+use Rattle.text.specs.Places.{viewIn}
 
 -- a view looks at positions 1 to n alone
 abbrev pub Local : View → Type 0
-Local view = (label other : ℕ → ℕ) (room another : ℕ → Room) (n : ℕ) → ((k : ℕ) → k < n → label (suc k) ≡ other (suc k)) → ((k : ℕ) → k < n → room (suc k) ≡ another (suc k))
+Local view = (label other : ℕ → ℕ) (room another : ℕ → Room) (n : ℕ)
+    → ((k : ℕ) → k < n → label (suc k) ≡ other (suc k)) → ((k : ℕ) → k < n → room (suc k) ≡ another (suc k))
     → view label room n ≡ view other another n
 
 -- what is printed for an answer of Record in, with the labels that it gave
@@ -54,10 +56,12 @@ length-labels : (bytes : List ℕ) → length (labelsOf bytes) ≡ kindOf bytes
 unfolding labelsOf
 length-labels bytes = length-decode (tripleIn (bodyOf bytes)) (kindOf bytes)
 
--- ---- the output slices after the answer, where each held `before`
+-- ---- what Record in answered for these bytes, and its output slices then, where each held `before`
 pub record Written (bytes : List ℕ) (answer : RecordAnswer) (labels left bottom right top : List ℕ) : Type 0 where
+  pub byte : kindOf bytes ≤ 255
   pub before : List ℕ
   pub answered : answer ≡ recordAnswer bytes 255 255 255 255 255
+  pub few : Few answer
   pub list : labels ≡ written answer (labelsOf bytes) before
   pub lefts : left ≡ written answer (leftsOf (labelsOf bytes)) before
   pub bottoms : bottom ≡ written answer (bottomsOf (labelsOf bytes)) before
@@ -75,20 +79,24 @@ module _ (labels : List ℕ) {n : ℕ} (size : length labels ≡ n) (k : ℕ) (i
       ∙ List·getD-append (table corner (length labels)) rest 0 k (omega (arith, length-table corner (length labels)))
       ∙ getD-table corner (length labels) k 0 (omega arith)
 
-  front-room : {left bottom right top : List ℕ} (lefts bottoms rights tops : List ℕ)
-      → left ≡ leftsOf labels ++ lefts → bottom ≡ bottomsOf labels ++ bottoms → right ≡ rightsOf labels ++ rights → top ≡ topsOf labels ++ tops
+  front-room : {left bottom right top : List ℕ} (rest : List ℕ) → left ≡ leftsOf labels ++ rest → bottom ≡ bottomsOf labels ++ rest
+      → right ≡ rightsOf labels ++ rest → top ≡ topsOf labels ++ rest
       → roomIn left bottom right top (suc k) ≡ roomAt (labelAt labels) n (suc k)
-  front-room lefts bottoms rights tops l b r t = λ i. record {
-    left = front-corner (λ j. leftAt (labelAt labels) (suc j)) lefts l i;
-    bottom = front-corner (λ j. bottomAt (labelAt labels) (suc j)) bottoms b i;
-    right = (front-corner (λ j. rightAt (labelAt labels) (length labels) (suc j)) rights r ∙ ap (λ (m : ℕ). rightAt (labelAt labels) m (suc k)) size) i;
-    top = (front-corner (λ j. topAt (labelAt labels) (length labels) (suc j)) tops t ∙ ap (λ (m : ℕ). topAt (labelAt labels) m (suc k)) size) i;
-  }
+  front-room rest l b r t =
+      let right = ap (λ (m : ℕ). rightAt (labelAt labels) m (suc k)) size in
+      let top = ap (λ (m : ℕ). topAt (labelAt labels) m (suc k)) size in λ i. record {
+        left = front-corner (λ j. leftAt (labelAt labels) (suc j)) rest l i;
+        bottom = front-corner (λ j. bottomAt (labelAt labels) (suc j)) rest b i;
+        right = (front-corner (λ j. rightAt (labelAt labels) (length labels) (suc j)) rest r ∙ right) i;
+        top = (front-corner (λ j. topAt (labelAt labels) (length labels) (suc j)) rest t ∙ top) i;
+      }
 
--- ---- a record that is read
+-- ---- what Record in answers
 module _ (bytes : List ℕ) (byte : kindOf bytes ≤ 255) where
   answer-checked : recordAnswer bytes 255 255 255 255 255 ≡ checked Refused bytes (Read (kindOf bytes))
-  answer-checked = ap (λ (good : RecordAnswer). checked Refused bytes good) (if-neg (dec-short (kindOf bytes) 255 255 255 255 255) (enough (kindOf bytes) byte) _ _)
+  answer-checked =
+      let fit = if-neg (dec-short (kindOf bytes) 255 255 255 255 255) (enough (kindOf bytes) byte) _ _ in
+      ap (λ (good : RecordAnswer). checked Refused bytes good) fit
 
   kind-read : (n : ℕ) → Read n ≡ recordAnswer bytes 255 255 255 255 255 → (n ≡ kindOf bytes) × (1 ≤ n)
   kind-read n e = go (sorted bytes)
@@ -100,37 +108,53 @@ module _ (bytes : List ℕ) (byte : kindOf bytes ≤ 255) where
           let some : ¬ (kindOf bytes ≡ 0) = λ none. all .kind (inr none) in
           (same, omega arith)
 
-  module _ (labels left bottom right top : List ℕ) (n : ℕ) (w : Written bytes (Read n) labels left bottom right top) where
-    pub read-some : 1 ≤ n
-    read-some = kind-read n (w .answered) .1
+  -- the text for the answer is what is printed
+  module _ (view : View) where
+    abbrev for : RecordAnswer → List ℕ
+    for answer = textFor view answer (labelsOf bytes)
 
-    size-read : length (labelsOf bytes) ≡ n
-    size-read = length-labels bytes ∙ sym (kind-read n (w .answered) .0)
+    abbrev refusal : Refusal → List ℕ
+    refusal r = refusedLine (numberOf r)
 
-    -- the labels and rooms at the first n positions are the record's
-    pub label-read : (k : ℕ) → k < n → labelAt labels (suc k) ≡ labelAt (labelsOf bytes) (suc k)
-    label-read k h = front-label (labelsOf bytes) size-read k h (drop n (w .before)) (w .list)
+    listed : for (Read (kindOf bytes)) ≡ viewOf view (labelsOf bytes)
+    listed = ap (λ (n : ℕ). for (Read n)) (sym (length-labels bytes))
 
-    pub room-read : (k : ℕ) → k < n → roomIn left bottom right top (suc k) ≡ roomAt (labelAt (labelsOf bytes)) n (suc k)
-    room-read k h = front-room (labelsOf bytes) size-read k h (drop n (w .before)) (drop n (w .before)) (drop n (w .before)) (drop n (w .before)) (w .lefts) (w .bottoms) (w .rights) (w .tops)
+    text-answer : for (recordAnswer bytes 255 255 255 255 255) ≡ printed view bytes
+    text-answer = ap for answer-checked ∙ go (sorted bytes)
+      where
+        go : Sorted bytes → for (checked Refused bytes (Read (kindOf bytes))) ≡ printed view bytes
+        go (refused cause) =
+            ap for (sym (refused-checked Refused bytes (Read (kindOf bytes)) cause))
+            ∙ refused-checked refusal bytes (viewOf view (labelsOf bytes)) cause
+        go (read all) =
+            ap for (sym (readable-checked Refused bytes (Read (kindOf bytes)) all))
+            ∙ listed
+            ∙ readable-checked refusal bytes (viewOf view (labelsOf bytes)) all
 
--- ---- the text
-module _ (view : View) (bytes : List ℕ) (byte : kindOf bytes ≤ 255) where
-  listed : textFor view (Read (kindOf bytes)) (labelsOf bytes) ≡ viewOf view (labelsOf bytes)
-  listed = ap (λ (n : ℕ). textFor view (Read n) (labelsOf bytes)) (sym (length-labels bytes))
+-- ---- a record that is refused
+module _ {bytes : List ℕ} {answer : RecordAnswer} {labels left bottom right top : List ℕ}
+    (w : Written bytes answer labels left bottom right top) where
+  pub refused-printed : (view : View) (refusal : Refusal) → answer ≡ Refused refusal → refusedLine (numberOf refusal) ≡ printed view bytes
+  refused-printed view refusal is = ap (for bytes (w .byte) view) (sym is ∙ w .answered) ∙ text-answer bytes (w .byte) view
 
-  -- the text for the answer is the record's
-  text-answer : textFor view (recordAnswer bytes 255 255 255 255 255) (labelsOf bytes) ≡ printed view bytes
-  text-answer = ap (λ (answer : RecordAnswer). textFor view answer (labelsOf bytes)) (answer-checked bytes byte) ∙ go (sorted bytes)
-    where
-      go : Sorted bytes → textFor view (checked Refused bytes (Read (kindOf bytes))) (labelsOf bytes) ≡ printed view bytes
-      go (refused cause) = ap (λ (answer : RecordAnswer). textFor view answer (labelsOf bytes)) (sym (refused-checked Refused bytes (Read (kindOf bytes)) cause)) ∙ refused-checked (λ refusal. refusedLine (numberOf refusal)) bytes (viewOf view (labelsOf bytes)) cause
-      go (read all) = ap (λ (answer : RecordAnswer). textFor view answer (labelsOf bytes)) (sym (readable-checked Refused bytes (Read (kindOf bytes)) all)) ∙ listed ∙ readable-checked (λ refusal. refusedLine (numberOf refusal)) bytes (viewOf view (labelsOf bytes)) all
+-- ---- a record that is read
+module _ {bytes : List ℕ} {n : ℕ} {labels left bottom right top : List ℕ} (w : Written bytes (Read n) labels left bottom right top) where
+  pub read-some : 1 ≤ n
+  read-some = kind-read bytes (w .byte) n (w .answered) .1
 
-  pub refused-text : (answer : RecordAnswer) (refusal : Refusal) (number : ℕ) → answer ≡ Refused refusal → answer ≡ recordAnswer bytes 255 255 255 255 255 → number ≡ numberOf refusal → refusedLine number ≡ printed view bytes
-  refused-text answer refusal number is e m = ap refusedLine m ∙ ap (λ (r : RecordAnswer). textFor view r (labelsOf bytes)) (sym is ∙ e) ∙ text-answer
+  size-read : length (labelsOf bytes) ≡ n
+  size-read = length-labels bytes ∙ sym (kind-read bytes (w .byte) n (w .answered) .0)
 
-  pub read-text : Local view → (labels left bottom right top : List ℕ) (n : ℕ) → Written bytes (Read n) labels left bottom right top → view (labelAt labels) (roomIn left bottom right top) n ≡ printed view bytes
-  read-text here labels left bottom right top n w =
-      here (labelAt labels) (labelAt (labelsOf bytes)) (roomIn left bottom right top) (roomAt (labelAt (labelsOf bytes)) n) n (label-read bytes byte labels left bottom right top n w) (room-read bytes byte labels left bottom right top n w)
-      ∙ ap (λ (r : RecordAnswer). textFor view r (labelsOf bytes)) (w .answered) ∙ text-answer
+  -- the labels and rooms at the first n positions are the record's
+  label-read : (k : ℕ) → k < n → labelAt labels (suc k) ≡ labelAt (labelsOf bytes) (suc k)
+  label-read k h = front-label (labelsOf bytes) size-read k h (drop n (w .before)) (w .list)
+
+  pub room-read : (k : ℕ) → k < n → roomIn left bottom right top (suc k) ≡ roomAt (labelAt (labelsOf bytes)) n (suc k)
+  room-read k h = front-room (labelsOf bytes) size-read k h (drop n (w .before)) (w .lefts) (w .bottoms) (w .rights) (w .tops)
+
+  pub read-printed : (view : View) → Local view → viewIn view labels left bottom right top n ≡ printed view bytes
+  read-printed view here =
+      here (labelAt labels) (labelAt (labelsOf bytes)) (roomIn left bottom right top) (roomAt (labelAt (labelsOf bytes)) n) n
+      label-read room-read
+      ∙ ap (for bytes (w .byte) view) (w .answered)
+      ∙ text-answer bytes (w .byte) view

@@ -1,10 +1,16 @@
-// Text put byte by byte into a lent store: bytes, words, numbers, and the line of a word and a number. What the programs print is made of these.
-ghost use mathlib.Core.List.{[], _∷_, _++_};
+// Text put byte by byte into a lent store: forms with numbers in them, of which all that the programs print is made.
+ghost use mathlib.Core.List.{[], _∷_};
 ghost use mathlib.Core.Path.{_≡_};
-ghost use Prim.Native.Nat.{_+_, _≤_, _<_};
+ghost use Prim.Native.Nat.{suc, _+_, _*_, _≤_, _<_};
 ghost use lib.ListN.{length};
+ghost use Rattle.record.specs.Refusal.{numberOf};
+ghost use Rattle.drawing.specs.Corners.{roomIn};
+ghost use Rattle.text.specs.Decimal.{decimal};
+ghost use Rattle.text.specs.Form.{filled};
 ghost use Rattle.text.specs.Put.{Put};
-ghost use Rattle.text.specs.Decimal.{decimal, field, wordLine};
+ghost use Rattle.text.specs.View.{refusedLine};
+use drawing::Room;
+use record::Refusal;
 
 // Puts a byte after the text so far, which ends at `at`, and answers where the text then ends. So do all that follow.
 fn put_byte(text: &mut [u8], at: usize, byte: u8) -> usize
@@ -13,19 +19,6 @@ fn put_byte(text: &mut [u8], at: usize, byte: u8) -> usize
 {
     text[at] = byte;
     at + 1
-}
-
-// Puts a word after the text so far.
-pub fn put_word(text: &mut [u8], at: usize, word: &[u8]) -> usize
-    requires { ⌜ at + length (now word) ≤ length (now text) ⌝ }
-    ensures { λ r. ⌜ Put (now (text .entry)) at (now (word .entry)) (now (text .exit)) r ⌝ }
-{
-    let mut i = 0;
-    while i < word.len() {
-        text[at + i] = word[i];
-        i += 1;
-    }
-    at + i
 }
 
 // Puts the digits of a number: those of its tenth, then the last one.
@@ -40,30 +33,48 @@ fn put_number(text: &mut [u8], at: usize, number: u16) -> usize
     put_byte(text, at, b'0' + (number % 10) as u8)
 }
 
-// Puts a number and the byte after it.
-pub fn put_field(text: &mut [u8], at: usize, number: u16, after: u8) -> usize
-    requires { ⌜ at + 6 ≤ length (now text) ⌝ }
-    ensures { λ r. ⌜ Put (now (text .entry)) at (field number after) (now (text .exit)) r × (r ≤ at + 6) ⌝ }
+// Puts a form, with the next number in the place of each `%`.
+pub fn put_form(text: &mut [u8], start: usize, form: &[u8], numbers: &[u16]) -> usize
+    requires { ⌜ start + length (now form) + 4 * length (now numbers) ≤ length (now text) ⌝ }
+    ensures { λ r. ⌜ Put (now (text .entry)) start (filled (now (form .entry)) (now (numbers .entry))) (now (text .exit)) r
+        × (r ≤ start + length (now (form .entry)) + 4 * length (now (numbers .entry))) ⌝ }
 {
-    let at = put_number(text, at, number);
-    put_byte(text, at, after)
+    let mut at = start;
+    let mut i = 0;
+    let mut k = 0;
+    while i < form.len() {
+        let byte = form[i];
+        i += 1;
+        if byte == b'%' {
+            if k < numbers.len() {
+                at = put_number(text, at, numbers[k]);
+                k += 1;
+                continue;
+            }
+        }
+        at = put_byte(text, at, byte);
+    }
+    at
 }
 
-// Puts a word and a number after the text so far.
-pub fn put_value(text: &mut [u8], at: usize, before: &[u8], number: u16) -> usize
-    requires { ⌜ at + length (now before) + 5 ≤ length (now text) ⌝ }
-    ensures { λ r. ⌜ Put (now (text .entry)) at (now (before .entry) ++ decimal number) (now (text .exit)) r × (r ≤ at + length (now (before .entry)) + 5) ⌝ }
+// Puts the line of a refused record from the front.
+pub fn put_refusal(text: &mut [u8], refusal: Refusal) -> usize
+    requires { ⌜ 14 ≤ length (now text) ⌝ }
+    ensures { λ r. ⌜ Put (now (text .entry)) 0 (refusedLine (numberOf refusal)) (now (text .exit)) r × (r ≤ 14) ⌝ }
 {
-    let at = put_word(text, at, before);
-    put_number(text, at, number)
+    let number = refusal.number() as u16;
+    put_form(text, 0, b"refused %\n", &[number])
 }
 
-// Puts the line of a word and a number from the front.
-pub fn put_word_line(text: &mut [u8], word: &[u8], number: u16) -> usize
-    requires { ⌜ length (now word) + 7 ≤ length (now text) ⌝ }
-    ensures { λ r. ⌜ Put (now (text .entry)) 0 (wordLine (now (word .entry)) number) (now (text .exit)) r × (r ≤ length (now (word .entry)) + 7) ⌝ }
+// The room with index i, of which the corners stand in lists by position.
+pub fn room_at(left: &[u16], bottom: &[u16], right: &[u16], top: &[u16], i: usize) -> Room
+    requires { ⌜ (i < length (now left)) × (i < length (now bottom)) × (i < length (now right)) × (i < length (now top)) ⌝ }
+    ensures { λ r. ⌜ r ≡ roomIn (now (left .entry)) (now (bottom .entry)) (now (right .entry)) (now (top .entry)) (suc i) ⌝ }
 {
-    let at = put_word(text, 0, word);
-    let at = put_byte(text, at, b' ');
-    put_field(text, at, number, b'\n')
+    Room {
+        left: left[i],
+        bottom: bottom[i],
+        right: right[i],
+        top: top[i],
+    }
 }

@@ -1,13 +1,17 @@
 -- `answers::record_in` meets its contract: the record is read or refused, and where the slices are long enough all of them are written from the front.
-use mathlib.Core.Path.{refl, sym, subst, _∙_}
+use mathlib.Core.List.{List}
+use mathlib.Core.Path.{_≡_, refl, sym, subst, _∙_}
+use Prim.Native.Nat.{ℕ}
 use native.Mathlib.Omega.{arith}
 use lib.ListN.{length}
 use Rattle.reading.specs.Answer.{Given, Leaves}
+use Rattle.reading.specs.SameRefusal.{same-refusal}
 use Rattle.reading.specs.declared.Reading.{Reading}
-use Rattle.answers.specs.Answer.{Short}
+use Rattle.record.specs.declared.Refusal.{Refusal}
+use Rattle.answers.specs.Answer.{Short, recordAnswer, slices, RecordIn}
 use Rattle.answers.specs.declared.RecordAnswer.the-variants.{Refused}
-use Rattle.answers.proofs.Asked.{same-refusal, long-enough, Least, least-of, short-answer, read-answer}
-use Rattle.answers.proofs.Drawn.{labels-front, lefts-front, bottoms-front, rights-front, tops-front}
+use Rattle.answers.proofs.Asked.{long-enough, Least, least-of, short-answer, read-answer}
+use Rattle.answers.specs.Drawn.{labels-front, lefts-front, bottoms-front, rights-front, tops-front}
 use borrow.Author.Needs.{needs}
 use Rattle.answers.proofs.record_in.Statement.{statement}
 use Rattle.answers.proofs.record_in.Tie as tie
@@ -41,6 +45,13 @@ enough : (e : lts.Else1 (smaller-reads.Asked, smaller-reads.Learnt, read-reads.A
     let a = k .before .before .before .before .before .before .before .before .before .before .before .before .before .before .before .before .before .before .before .before .before .before .before .before .before .args in
     ¬ Short (k .before .n .given .0 .0) (length (a .labels .now)) (length (a .left .now)) (length (a .bottom .now)) (length (a .right .now)) (length (a .top .now))
 enough e = fit (e .before .before .before .before .before .before .before .before .before .before .before .before .before .before .before .before) .enough (e .before .before .n .given .0 .0) (omega (arith, e .if1 .left))
+
+-- a refusal, and every slice as it was
+refused : {bytes labels left bottom right top labels₁ left₁ bottom₁ right₁ top₁ : List ℕ} {refusal : Refusal}
+    → Refused refusal ≡ recordAnswer bytes (length labels) (length left) (length bottom) (length right) (length top)
+    → labels₁ ≡ labels → left₁ ≡ left → bottom₁ ≡ bottom → right₁ ≡ right → top₁ ≡ top
+    → RecordIn bytes (slices labels left bottom right top) (Refused refusal) (slices labels₁ left₁ bottom₁ right₁ top₁)
+refused e l f b r t = record { answered = e; labels-are = l; lefts-are = f; bottoms-are = b; rights-are = r; tops-are = t }
 
 smaller-requires : tie.Need-smaller-requires
 smaller-requires c κs = search needs
@@ -79,7 +90,7 @@ returns c =
     let k = c .before in
     let g = given k in
     let same = g .short (c .if1 .taken) in
-    ((short-answer (g .kind) (g .readable) _ _ _ _ _ (fit (k .before .before .before .before .before .before .before .before .before .before .before .before .before .before .before) .too-few (k .before .n .given .0 .0) (c .if1 .taken)), tt), (same .0, (refl, (refl, (same .1, same .2)))))
+    (refused (short-answer (g .kind) (g .readable) _ _ _ _ _ (fit (k .before .before .before .before .before .before .before .before .before .before .before .before .before .before .before) .too-few (k .before .n .given .0 .0) (c .if1 .taken))) (same .0) refl refl (same .1) (same .2), tt)
 
 put-front-requires : tie.Need-put-front-requires
 put-front-requires c κs = let e = c .before .before in (given (e .before) .few, long-enough (enough e) .1)
@@ -103,7 +114,7 @@ returns-2 c =
     let last = read .last .1 .1 .1 in
     let same = subst (λ (r : Reading). Leaves r (a .«record» .now) 0 (c .before .before .before .before .before .before .before .before .before .before .before .before .before .before .before .smaller4 .result) (last .0) (last .1 .0) (a .labels .now) (a .right .now) (a .top .now) (last .1 .1 .0) (last .1 .1 .1 .0) (last .1 .1 .1 .1 .0))
     (c .before .refusal .given .1) (read .ensures .1) in
-    ((same-refusal Refused (a .«record» .now) _ (c .before .refusal .given .0 .0) (sym (c .before .refusal .given .1) ∙ read .ensures .0), tt), (same .0, (refl, (refl, (same .1, same .2)))))
+    (refused (same-refusal Refused (a .«record» .now) _ (c .before .refusal .given .0 .0) (sym (c .before .refusal .given .1) ∙ read .ensures .0)) (same .0) refl refl (same .1) (same .2), tt)
 
 same-length-7 : tie.Need-same-length-7
 same-length-7 c = search needs
@@ -128,17 +139,15 @@ returns-3 c =
     let g = given k in
     let fits = long-enough (enough e) in
     let w = g .long (omega (arith, e .if1 .left)) (g .some) in (
-      (read-answer (g .kind) (g .readable) _ _ _ _ _ (enough e), g .few),
-      (
-        labels-front (g .kind) (g .readable) (a .labels .now) (fits .0) (w .labels-are),
-        (
-          c .before .before .before .before .before .before .before .put-front .ensures ∙ lefts-front (g .kind) (g .readable) (a .left .now) _ (g .lefts),
-          (
-            c .before .before .put-front2 .ensures ∙ bottoms-front (g .kind) (g .readable) (a .bottom .now) _ (g .bottoms),
-            (rights-front (g .kind) (g .readable) (a .right .now) (fits .3) (w .rights-are), tops-front (g .kind) (g .readable) (a .top .now) (fits .4) (w .tops-are)),
-          ),
-        ),
-      ),
+      record {
+        answered = read-answer (g .kind) (g .readable) _ _ _ _ _ (enough e);
+        labels-are = labels-front (g .kind) (g .readable) (a .labels .now) (fits .0) (w .labels-are);
+        lefts-are = c .before .before .before .before .before .before .before .put-front .ensures ∙ lefts-front (g .kind) (g .readable) (a .left .now) _ (g .lefts);
+        bottoms-are = c .before .before .put-front2 .ensures ∙ bottoms-front (g .kind) (g .readable) (a .bottom .now) _ (g .bottoms);
+        rights-are = rights-front (g .kind) (g .readable) (a .right .now) (fits .3) (w .rights-are);
+        tops-are = tops-front (g .kind) (g .readable) (a .top .now) (fits .4) (w .tops-are);
+      },
+      g .few,
     )
 
 pub record-in-spec : {M : Type 1} → statement M

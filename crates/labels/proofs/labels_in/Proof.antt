@@ -16,13 +16,13 @@ use Rattle.record.specs.Causes.{BadCount, dec-barred}
 use Rattle.record.specs.Demand1.{count, outside, twice, barred, short, wrote, demand1-labels-answer}
 use Rattle.record.specs.Demand2.{each-once, once-single, record-length}
 use Rattle.record.specs.declared.LabelsAnswer.the-variants.{Wrote}
-use Rattle.labels.proofs.Choose.{not-true, not-false}
+use Rattle.labels.proofs.Not.{not-true, not-false}
 use Rattle.labels.proofs.Written.{Written, written}
 use Rattle.labels.proofs.labels_in.Statement.{statement}
 use Rattle.labels.proofs.labels_in.Tie as tie
 use Rattle.labels.proofs.labels_in.Reads as reads
 use Rattle.labels.proofs.labels_in.Lts as lts
-use Rattle.labels.proofs.encode.Reads as encode-reads
+use Rattle.encoding.proofs.encode.Reads as encode-reads
 use Rattle.labels.proofs.outside.Reads as outside-reads
 use Rattle.labels.proofs.twice.Reads as twice-reads
 use Rattle.labels.proofs.write_record.Reads as write-record-reads
@@ -45,16 +45,16 @@ whole : (e : lts.Else4 (outside-reads.Asked, outside-reads.Learnt, encode-reads.
 whole e = written (e .before .before .before .before .before .before .before .before .before .args .labels .now) (e .before .encode .last .1 .0) (e .before .before .before .before .before .if2 .left) (encoded e .1)
 
 returns : tie.Need-returns
-returns c = let a = c .before .before .before .args in (demand1-labels-answer (a .labels .now) (length (a .«record» .now)) (count (inl (c .if1 .taken))), refl)
+returns c = let a = c .before .before .before .args in record { answered = demand1-labels-answer (a .labels .now) (length (a .«record» .now)) (count (inl (c .if1 .taken))); left = refl }
 
 returns-2 : tie.Need-returns-2
-returns-2 c = let a = c .before .before .before .before .args in (demand1-labels-answer (a .labels .now) (length (a .«record» .now)) (count (inr (c .if2 .taken))), refl)
+returns-2 c = let a = c .before .before .before .before .args in record { answered = demand1-labels-answer (a .labels .now) (length (a .«record» .now)) (count (inr (c .if2 .taken))); left = refl }
 
 outside-requires : tie.Need-outside-requires
 outside-requires c κs = search needs
 
 returns-3 : tie.Need-returns-3
-returns-3 c = (demand1-labels-answer _ _ (outside (counted (c .before .before)) (rw (c .if3 .taken) at (c .before .outside .ensures))), refl)
+returns-3 c = record { answered = demand1-labels-answer _ _ (outside (counted (c .before .before)) (rw (c .if3 .taken) at (c .before .outside .ensures))); left = refl }
 
 encode-requires : tie.Need-encode-requires
 encode-requires c κs = let e = c .before .before .before in ((omega (arith, e .before .if1 .left), e .if2 .left), (inside (c .before), refl))
@@ -63,7 +63,7 @@ twice-requires : tie.Need-twice-requires
 twice-requires c κs = search needs
 
 returns-4 : tie.Need-returns-4
-returns-4 c = let e = c .before .before .before .before .before in (demand1-labels-answer _ _ (twice (counted (e .before .before)) (inside e) (rw (c .if5 .taken) at (c .before .twice .ensures))), refl)
+returns-4 c = let e = c .before .before .before .before .before in record { answered = demand1-labels-answer _ _ (twice (counted (e .before .before)) (inside e) (rw (c .if5 .taken) at (c .before .twice .ensures))); left = refl }
 
 returns-5 : tie.Need-returns-5
 returns-5 c =
@@ -71,7 +71,7 @@ returns-5 c =
     let a = e .before .before .before .before .before .before .args .labels .now in
     let single = rw (c .if5 .left) at (c .before .twice .ensures) in
     let bad = stable (dec-barred (labelAt a) (length a)) (λ free. not-baxter (c .before .before) record { each-once = each-once a (inside e) single; not-barred = free }) in
-    (demand1-labels-answer _ _ (barred (counted (e .before .before)) (inside e) single bad), refl)
+    record { answered = demand1-labels-answer _ _ (barred (counted (e .before .before)) (inside e) single bad); left = refl }
 
 mul-size : tie.Need-mul-size
 mul-size c = search needs
@@ -87,7 +87,7 @@ returns-6 c =
     let e = c .before .before .before .before in
     let b = encoded (c .before) in
     let a = e .before .before .before .before .before .before .args .labels .now in
-    (demand1-labels-answer _ _ (short (counted (e .before .before)) (inside e) (once-single a (b .0 .each-once)) (b .0 .not-barred) (omega (arith, record-length a, c .if6 .taken))), refl)
+    record { answered = demand1-labels-answer _ _ (short (counted (e .before .before)) (inside e) (once-single a (b .0 .each-once)) (b .0 .not-barred) (omega (arith, record-length a, c .if6 .taken))); left = refl }
 
 cast-write-record : tie.Need-cast-write-record
 cast-write-record c = search needs
@@ -115,10 +115,11 @@ returns-7 c =
     let b = encoded f in
     let a = e .before .before .before .before .before .before .args in
     let o = whole f in
-    let size = record-length (a .labels .now) in (
-      ap Wrote (sym size) ∙ demand1-labels-answer (a .labels .now) (length (a .«record» .now)) (wrote (counted (e .before .before)) (inside e) (once-single (a .labels .now) (b .0 .each-once)) (b .0 .not-barred) (λ h. omega (arith, w .before .before .before .if6 .left))),
-      w .write-record .ensures ∙ (λ i. o .is i ++ drop (1 + o .part i) (a .«record» .now)),
-    )
+    let size = record-length (a .labels .now) in
+    record {
+      answered = ap Wrote (sym size) ∙ demand1-labels-answer (a .labels .now) (length (a .«record» .now)) (wrote (counted (e .before .before)) (inside e) (once-single (a .labels .now) (b .0 .each-once)) (b .0 .not-barred) (λ h. omega (arith, w .before .before .before .if6 .left)));
+      left = w .write-record .ensures ∙ (λ i. o .is i ++ drop (1 + o .part i) (a .«record» .now));
+    }
 
 pub labels-in-spec : {M : Type 1} → statement M
 labels-in-spec =

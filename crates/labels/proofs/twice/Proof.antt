@@ -11,7 +11,7 @@ use Rattle.finite.specs.Search.{Some}
 use Rattle.record.specs.Labels.{labelAt}
 use Rattle.record.specs.Triple.{Earlier, dec-earlier}
 use Rattle.labels.proofs.Found.{found-before}
-use Rattle.labels.proofs.Marks.{Marks, marks-none, marks-more, mark-tells}
+use Rattle.encoding.specs.Marks.{Marks, marks-none, marks-more, mark-tells}
 use Rattle.labels.proofs.twice.Statement.{statement}
 use Rattle.labels.proofs.twice.Tie as tie
 

@@ -2,16 +2,10 @@
 use mathlib.Core.Path.{sym, ap, _∙_}
 use native.Mathlib.Omega.{arith}
 use lib.ListN.{length}
-use mir.Syntax.{w32}
-use mir.Val.{toZ, ofZ}
-use mir.ValLaws.{toZ-ofZ}
-use lib.IntN.{ℤ}
 use borrow.Author.Needs.{needs}
-use Rattle.record.specs.declared.LabelsAnswer.{LabelsAnswer}
-use Rattle.record.specs.Answer.{recordAfter}
 use Rattle.record.specs.Demand2.{wrote-at-most-97}
-use Rattle.nenturxo.specs.Code.{refusalCode, labelsCode}
-use Rattle.nenturxo.proofs.Signed.{small-is, small-fits, refused-fits}
+use Rattle.nenturxo.specs.Code.{labelsCode}
+use Rattle.nenturxo.proofs.Signed.{small-is, small-fits, refused-is}
 use Rattle.nenturxo.proofs.nenturxo_labels_in.Statement.{statement}
 use Rattle.nenturxo.proofs.nenturxo_labels_in.Tie as tie
 
@@ -25,7 +19,7 @@ cast-result : tie.Need-cast-result
 cast-result c =
     let call = c .before .before .before .before .before .labels-in in
     let a = c .before .before .before .before .before .before .before .before .before .args in
-    small-fits (c .before .size .given .0 .0) (omega (arith, wrote-at-most-97 (a .labels .now) (length (a .«record» .now)) (c .before .size .given .0 .0) (sym (call .ensures .0) ∙ c .before .size .given .1)))
+    small-fits (c .before .size .given .0 .0) (omega (arith, wrote-at-most-97 (a .labels .now) (length (a .«record» .now)) (c .before .size .given .0 .0) (sym (call .ensures .answered) ∙ c .before .size .given .1)))
 
 enum-known-refusal : tie.Need-enum-known-refusal
 enum-known-refusal c = search needs
@@ -40,10 +34,12 @@ returns : tie.Need-returns
 returns c =
     let call = c .before .before .before .before .before .labels-in in
     let a = c .before .before .before .before .before .before .before .before .before .args in
-    let size = c .before .size .given .0 .0 in (
-      small-is size (omega (arith, wrote-at-most-97 (a .labels .now) (length (a .«record» .now)) size (sym (call .ensures .0) ∙ c .before .size .given .1))) ∙ ap labelsCode (sym (c .before .size .given .1) ∙ call .ensures .0),
-      call .ensures .1 ∙ ap (λ (answer : LabelsAnswer). recordAfter answer (a .labels .now) (a .«record» .now)) (call .ensures .0),
-    )
+    let size = c .before .size .given .0 .0 in
+    record {
+      answer = call .result;
+      numbered = small-is size (omega (arith, wrote-at-most-97 (a .labels .now) (length (a .«record» .now)) size (sym (call .ensures .answered) ∙ c .before .size .given .1))) ∙ ap labelsCode (sym (c .before .size .given .1));
+      did = call .ensures;
+    }
 
 same-length-2 : tie.Need-same-length-2
 same-length-2 c = search needs
@@ -51,10 +47,11 @@ same-length-2 c = search needs
 returns-2 : tie.Need-returns-2
 returns-2 c =
     let call = c .before .before .before .before .before .before .labels-in in
-    let a = c .before .before .before .before .before .before .before .before .before .before .args in (
-      ap (λ (z : ℤ). toZ w32 (ofZ w32 z)) (c .refused .ensures) ∙ toZ-ofZ w32 (refusalCode (c .before .before .refusal .given .0 .0)) (refused-fits (c .before .before .refusal .given .0 .0)) ∙ ap labelsCode (sym (c .before .before .refusal .given .1) ∙ call .ensures .0),
-      call .ensures .1 ∙ ap (λ (answer : LabelsAnswer). recordAfter answer (a .labels .now) (a .«record» .now)) (call .ensures .0),
-    )
+    record {
+      answer = call .result;
+      numbered = refused-is (c .before .before .refusal .given .0 .0) (c .refused .ensures) ∙ ap labelsCode (sym (c .before .before .refusal .given .1));
+      did = call .ensures;
+    }
 
 pub nenturxo-labels-in-spec : {M : Type 1} → statement M
 nenturxo-labels-in-spec =

@@ -1,12 +1,9 @@
 -- `nenturxo::nenturxo_question` meets its contract: the answer of the question, as a number.
 use mathlib.Core.Path.{sym, ap, _∙_}
 use native.Mathlib.Omega.{arith}
-use lib.IntN.{ℤ, pos}
-use mir.Syntax.{w32}
-use mir.Val.{toZ, ofZ}
-use mir.ValLaws.{toZ-ofZ}
-use Rattle.nenturxo.specs.Code.{refusalCode, questionCode}
-use Rattle.nenturxo.proofs.Signed.{small-is, refused-fits}
+use lib.IntN.{pos}
+use Rattle.nenturxo.specs.Code.{questionCode}
+use Rattle.nenturxo.proofs.Signed.{small-is, refused-is}
 use borrow.Author.Needs.{needs}
 use Rattle.nenturxo.proofs.nenturxo_question.Statement.{statement}
 use Rattle.nenturxo.proofs.nenturxo_question.Tie as tie
@@ -36,8 +33,8 @@ returns c =
 
 returns-2 : tie.Need-returns-2
 returns-2 c =
-    let refusal = c .before .before .refusal .given .0 .0 in
-    ap (λ (z : ℤ). toZ w32 (ofZ w32 z)) (c .refused .ensures) ∙ toZ-ofZ w32 (refusalCode refusal) (refused-fits refusal) ∙ ap questionCode (sym (c .before .before .refusal .given .1) ∙ c .before .before .before .before .question .ensures)
+    refused-is (c .before .before .refusal .given .0 .0) (c .refused .ensures)
+    ∙ ap questionCode (sym (c .before .before .refusal .given .1) ∙ c .before .before .before .before .question .ensures)
 
 pub nenturxo-question-spec : {M : Type 1} → statement M
 nenturxo-question-spec =

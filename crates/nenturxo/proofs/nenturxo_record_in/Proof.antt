@@ -1,16 +1,10 @@
 -- `nenturxo::nenturxo_record_in` meets its contract: the answer of Record in, as a number.
-use mathlib.Core.List.{List}
-use mathlib.Core.Path.{_≡_, sym, ap, subst, _∙_}
-use Prim.Native.Nat.{ℕ, _≤_}
+use mathlib.Core.Path.{sym, ap, subst, _∙_}
+use Prim.Native.Nat.{_≤_}
 use native.Mathlib.Omega.{arith}
-use lib.IntN.{ℤ}
-use mir.Syntax.{w32}
-use mir.Val.{toZ, ofZ}
-use mir.ValLaws.{toZ-ofZ}
-use Rattle.answers.specs.Answer.{Few, written}
-use Rattle.answers.specs.declared.RecordAnswer.{RecordAnswer}
-use Rattle.nenturxo.specs.Code.{refusalCode, recordCode}
-use Rattle.nenturxo.proofs.Signed.{small-is, small-fits, refused-fits}
+use Rattle.answers.specs.Answer.{Few}
+use Rattle.nenturxo.specs.Code.{recordCode}
+use Rattle.nenturxo.proofs.Signed.{small-is, small-fits, refused-is}
 use borrow.Author.Needs.{needs}
 use Rattle.nenturxo.proofs.nenturxo_record_in.Statement.{statement}
 use Rattle.nenturxo.proofs.nenturxo_record_in.Tie as tie
@@ -21,11 +15,7 @@ use Rattle.nenturxo.proofs.refused.Reads as refused-reads
 
 -- the number of rooms is small
 few : (c : lts.After-known-told (record-in-reads.Asked, record-in-reads.Learnt, refused-reads.Asked, refused-reads.Learnt) reads.Pre reads.Post) → c .before .n .given .0 .0 ≤ 255
-few c = subst Few (c .before .n .given .1) (c .before .before .before .before .before .before .before .before .before .before .before .before .before .record-in .ensures .0 .1)
-
--- what a slice holds, with the answer by its definition
-moved : {answer other : RecordAnswer} → answer ≡ other → (result before : List ℕ) {after : List ℕ} → after ≡ written answer result before → after ≡ written other result before
-moved e result before w = w ∙ ap (λ (a : RecordAnswer). written a result before) e
+few c = subst Few (c .before .n .given .1) (c .before .before .before .before .before .before .before .before .before .before .before .before .before .record-in .ensures .1)
 
 record-in-requires : tie.Need-record-in-requires
 record-in-requires c κs = search needs
@@ -60,8 +50,11 @@ same-length-5 c = search needs
 returns : tie.Need-returns
 returns c =
     let call = c .before .before .before .before .before .before .before .before .before .before .before .before .before .record-in in
-    let e = call .ensures .0 .0 in
-    (small-is (c .before .n .given .0 .0) (omega (arith, few c)) ∙ ap recordCode (sym (c .before .n .given .1) ∙ e), (moved e _ _ (call .ensures .1 .0), (moved e _ _ (call .ensures .1 .1 .0), (moved e _ _ (call .ensures .1 .1 .1 .0), (moved e _ _ (call .ensures .1 .1 .1 .1 .0), moved e _ _ (call .ensures .1 .1 .1 .1 .1))))))
+    record {
+      answer = call .result;
+      numbered = small-is (c .before .n .given .0 .0) (omega (arith, few c)) ∙ ap recordCode (sym (c .before .n .given .1));
+      did = call .ensures .0;
+    }
 
 same-length-6 : tie.Need-same-length-6
 same-length-6 c = search needs
@@ -80,10 +73,12 @@ same-length-10 c = search needs
 
 returns-2 : tie.Need-returns-2
 returns-2 c =
-    let refusal = c .before .before .refusal .given .0 .0 in
     let call = c .before .before .before .before .before .before .before .before .before .before .before .before .before .before .record-in in
-    let e = call .ensures .0 .0 in
-    (ap (λ (z : ℤ). toZ w32 (ofZ w32 z)) (c .refused .ensures) ∙ toZ-ofZ w32 (refusalCode refusal) (refused-fits refusal) ∙ ap recordCode (sym (c .before .before .refusal .given .1) ∙ e), (moved e _ _ (call .ensures .1 .0), (moved e _ _ (call .ensures .1 .1 .0), (moved e _ _ (call .ensures .1 .1 .1 .0), (moved e _ _ (call .ensures .1 .1 .1 .1 .0), moved e _ _ (call .ensures .1 .1 .1 .1 .1))))))
+    record {
+      answer = call .result;
+      numbered = refused-is (c .before .before .refusal .given .0 .0) (c .refused .ensures) ∙ ap recordCode (sym (c .before .before .refusal .given .1));
+      did = call .ensures .0;
+    }
 
 pub nenturxo-record-in-spec : {M : Type 1} → statement M
 nenturxo-record-in-spec =

@@ -52,7 +52,7 @@ listed e = e .label-list .ensures .1 (roomsAt (start (e .before .before .before 
 
 -- what Labels in answers for it
 told : (e : lts.After-labels-in (positions-reads.Asked, positions-reads.Learnt, labels-reads.Asked, labels-reads.Learnt, label-list-reads.Asked, label-list-reads.Learnt, labels-in-reads.Asked, labels-in-reads.Learnt, put-front-reads.Asked, put-front-reads.Learnt) reads.Pre reads.Post) → e .labels-in .result ≡ labelsAnswer (labelList (roomsAt (start (e .before .before .before .before .before .before .before .before .before .before .before .before)))) (length (start (e .before .before .before .before .before .before .before .before .before .before .before .before) .args .«record» .now))
-told e = e .labels-in .ensures .0 ∙ ap (λ (list : List ℕ). labelsAnswer list (length (start (e .before .before .before .before .before .before .before .before .before .before .before .before) .args .«record» .now))) (listed (e .before .before .before))
+told e = e .labels-in .ensures .answered ∙ ap (λ (list : List ℕ). labelsAnswer list (length (start (e .before .before .before .before .before .before .before .before .before .before .before .before) .args .«record» .now))) (listed (e .before .before .before))
 
 enough : (e : lts.Else2 (positions-reads.Asked, positions-reads.Learnt, labels-reads.Asked, labels-reads.Learnt, label-list-reads.Asked, label-list-reads.Learnt, labels-in-reads.Asked, labels-in-reads.Learnt, put-front-reads.Asked, put-front-reads.Learnt) reads.Pre reads.Post) → (length (roomsAt (start e)) ≤ length (start e .args .labels .now)) × (length (roomsAt (start e)) ≤ length (start e .args .positions .now))
 enough e = (omega (arith, size (start e), e .before .if1 .left), omega (arith, size (start e), e .if2 .left))
@@ -102,7 +102,7 @@ returns-3 c =
     let e = f .before .before .before .before .before .before .before .before .before .before .before .before in
     let t = start e in (
       ap forRooms (sym (c .before .refusal .given .1) ∙ told f) ∙ same-answer (roomsAt t) (accepted t) _ _ _ (enough e .0) (enough e .1),
-      (f .labels-in .ensures .1 ∙ ap (λ (r : LabelsAnswer). recordAfter r (take (length (t .args .left .now)) (f .before .before .before .label-list .last .1 .1 .1 .0)) (t .args .«record» .now)) (c .before .refusal .given .1), (refl, refl)),
+      (f .labels-in .ensures .left ∙ ap (λ (r : LabelsAnswer). recordAfter r (take (length (t .args .left .now)) (f .before .before .before .label-list .last .1 .1 .1 .0)) (t .args .«record» .now)) (c .before .refusal .given .1), (refl, refl)),
     )
 
 same-length-2 : tie.Need-same-length-2
@@ -123,7 +123,7 @@ returns-4 c =
     let at = walked (f .before .before .before .before .before .before .before) in (
       ap forRooms (sym (given .1) ∙ told f) ∙ same-answer (roomsAt t) (accepted t) _ _ _ (enough e .0) (enough e .1),
       (
-        f .labels-in .ensures .1 ∙ (λ i. recordAfter (given .1 i) (listed (f .before .before .before) i) (t .args .«record» .now)) ∙ same-record (roomsAt t) (accepted t) (length (t .args .«record» .now)) _ (t .args .«record» .now) (sym (given .1) ∙ told f),
+        f .labels-in .ensures .left ∙ (λ i. recordAfter (given .1 i) (listed (f .before .before .before) i) (t .args .«record» .now)) ∙ same-record (roomsAt t) (accepted t) (length (t .args .«record» .now)) _ (t .args .«record» .now) (sym (given .1) ∙ told f),
         (
           c .before .before .before .before .before .before .before .put-front .ensures ∙ each-front (roomsAt t) (labelOf (roomsAt t)) (f .before .before .before .before .before .before .before .labels .last .1 .1 .1 .1 .1 .1 .0) (t .args .labels .now) _ (sym (size t)) (at .labels-are),
           c .before .before .put-front2 .ensures ∙ each-front (roomsAt t) (positionOf (roomsAt t)) (f .before .before .before .before .before .before .before .before .before .positions .last .1 .1 .1 .1 .1 .1 .1 .0) (t .args .positions .now) _ (sym (size t)) (f .before .before .before .before .before .before .before .before .before .positions .ensures .1 .1),

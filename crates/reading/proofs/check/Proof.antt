@@ -17,67 +17,68 @@ use Rattle.record.specs.Read.{kindOf, bodyOf, NoKind, ShortBody, BytesAfter, Sp
 use Rattle.record.specs.Checked.{Readable, no-kind, short-body, bytes-after, spare-bit, missing-run, several-runs, refused-checked, readable-checked}
 use Rattle.record.specs.declared.Refusal.the-variants.{SeveralRuns}
 use Rattle.reading.specs.Answer.{readingOf}
-use Rattle.reading.specs.Passes.{endCounts, Noted}
-use Rattle.reading.specs.declared.RunCounts.{RunCounts}
-use Rattle.reading.specs.declared.RunCounts.the-variants.{Counted}
+use Rattle.steps.specs.Counts.{endCounts}
+use Rattle.forward.specs.Noted.{Noted}
+use Rattle.steps.specs.declared.RunCounts.{RunCounts}
+use Rattle.steps.specs.declared.RunCounts.the-variants.{Counted}
 use Rattle.reading.specs.declared.Reading.the-variants.{Read, Refused}
 use borrow.Author.Needs.{needs}
 use Rattle.reading.proofs.check.Statement.{statement}
 use Rattle.reading.proofs.check.Tie as tie
 use Rattle.reading.proofs.check.Reads as reads
 use Rattle.reading.proofs.check.Lts as lts
-use Rattle.reading.proofs.forward.Reads as forward-reads
+use Rattle.forward.proofs.walk.Reads as walk-reads
 use Rattle.reading.proofs.spare_bit.Reads as spare-bit-reads
-use Rattle.reading.proofs.wide.Reads as wide-reads
+use Rattle.steps.proofs.wide.Reads as wide-reads
 
 -- the body is what is left of the record after its first byte
 body-is : (bytes : List ℕ) → take (length bytes - 1) (drop 1 bytes) ≡ bodyOf bytes
 body-is bytes = take-all (length bytes - 1) (drop 1 bytes) (omega (arith, length-drop 1 bytes))
 
 -- the bytes of the record, where its kind is known
-abbrev bytes : lts.Else2 (wide-reads.Asked, wide-reads.Learnt, spare-bit-reads.Asked, spare-bit-reads.Learnt, forward-reads.Asked, forward-reads.Learnt) reads.Pre reads.Post → List ℕ
+abbrev bytes : lts.Else2 (wide-reads.Asked, wide-reads.Learnt, spare-bit-reads.Asked, spare-bit-reads.Learnt, walk-reads.Asked, walk-reads.Learnt) reads.Pre reads.Post → List ℕ
 bytes e = e .before .before .before .before .before .args .«record» .now
 
-kind-is : (e : lts.Else2 (wide-reads.Asked, wide-reads.Learnt, spare-bit-reads.Asked, spare-bit-reads.Learnt, forward-reads.Asked, forward-reads.Learnt) reads.Pre reads.Post) → e .before .wide .result ≡ kindOf (bytes e)
+kind-is : (e : lts.Else2 (wide-reads.Asked, wide-reads.Learnt, spare-bit-reads.Asked, spare-bit-reads.Learnt, walk-reads.Asked, walk-reads.Learnt) reads.Pre reads.Post) → e .before .wide .result ≡ kindOf (bytes e)
 kind-is e = e .before .wide .ensures .0
 
 -- the record passes 9, 10, 11 and 14
-has-kind : (e : lts.Else2 (wide-reads.Asked, wide-reads.Learnt, spare-bit-reads.Asked, spare-bit-reads.Learnt, forward-reads.Asked, forward-reads.Learnt) reads.Pre reads.Post) → ¬ NoKind (bytes e)
+has-kind : (e : lts.Else2 (wide-reads.Asked, wide-reads.Learnt, spare-bit-reads.Asked, spare-bit-reads.Learnt, walk-reads.Asked, walk-reads.Learnt) reads.Pre reads.Post) → ¬ NoKind (bytes e)
 has-kind e h = elim h [ inl z ↦ e .before .before .before .if1 .left z | inr z ↦ e .if2 .left (kind-is e ∙ z) ]
 
-not-short : (e : lts.Else3 (wide-reads.Asked, wide-reads.Learnt, spare-bit-reads.Asked, spare-bit-reads.Learnt, forward-reads.Asked, forward-reads.Learnt) reads.Pre reads.Post) → ¬ ShortBody (bytes (e .before .before))
+not-short : (e : lts.Else3 (wide-reads.Asked, wide-reads.Learnt, spare-bit-reads.Asked, spare-bit-reads.Learnt, walk-reads.Asked, walk-reads.Learnt) reads.Pre reads.Post) → ¬ ShortBody (bytes (e .before .before))
 not-short e h = omega (arith, e .if3 .left, ap length (body-is (bytes (e .before .before))), kind-is (e .before .before))
 
-not-long : (e : lts.Else4 (wide-reads.Asked, wide-reads.Learnt, spare-bit-reads.Asked, spare-bit-reads.Learnt, forward-reads.Asked, forward-reads.Learnt) reads.Pre reads.Post) → ¬ BytesAfter (bytes (e .before .before .before))
+not-long : (e : lts.Else4 (wide-reads.Asked, wide-reads.Learnt, spare-bit-reads.Asked, spare-bit-reads.Learnt, walk-reads.Asked, walk-reads.Learnt) reads.Pre reads.Post) → ¬ BytesAfter (bytes (e .before .before .before))
 not-long e h = omega (arith, e .if4 .left, ap length (body-is (bytes (e .before .before .before))), kind-is (e .before .before .before))
 
-no-spare : (e : lts.Else5 (wide-reads.Asked, wide-reads.Learnt, spare-bit-reads.Asked, spare-bit-reads.Learnt, forward-reads.Asked, forward-reads.Learnt) reads.Pre reads.Post) → ¬ SpareBit (bytes (e .before .before .before .before .before))
+no-spare : (e : lts.Else5 (wide-reads.Asked, wide-reads.Learnt, spare-bit-reads.Asked, spare-bit-reads.Learnt, walk-reads.Asked, walk-reads.Learnt) reads.Pre reads.Post) → ¬ SpareBit (bytes (e .before .before .before .before .before))
 no-spare e h =
     let o = e .before .before .before .before .before in
     let s : Tells (e .before .spare-bit .result) (SpareBit (bytes o)) = subst₂ (λ (body : List ℕ) (n : ℕ). Tells (e .before .spare-bit .result) (Some (λ i. bitAt body i ≡ true) (3 * n - 3) (8 * length body))) (body-is (bytes o)) (kind-is o) (e .before .spare-bit .ensures) in
     subst (λ (b : Bool). Tells b (SpareBit (bytes o))) (e .if5 .left) s h
 
 -- the walk's end
-abbrev passed : lts.After-forward (wide-reads.Asked, wide-reads.Learnt, spare-bit-reads.Asked, spare-bit-reads.Learnt, forward-reads.Asked, forward-reads.Learnt) reads.Pre reads.Post → lts.Else5 (wide-reads.Asked, wide-reads.Learnt, spare-bit-reads.Asked, spare-bit-reads.Learnt, forward-reads.Asked, forward-reads.Learnt) reads.Pre reads.Post
+abbrev passed : lts.After-walk (wide-reads.Asked, wide-reads.Learnt, spare-bit-reads.Asked, spare-bit-reads.Learnt, walk-reads.Asked, walk-reads.Learnt) reads.Pre reads.Post → lts.Else5 (wide-reads.Asked, wide-reads.Learnt, spare-bit-reads.Asked, spare-bit-reads.Learnt, walk-reads.Asked, walk-reads.Learnt) reads.Pre reads.Post
 passed f = f .before .before .before .before .before
 
-abbrev kind : lts.Else5 (wide-reads.Asked, wide-reads.Learnt, spare-bit-reads.Asked, spare-bit-reads.Learnt, forward-reads.Asked, forward-reads.Learnt) reads.Pre reads.Post → lts.Else2 (wide-reads.Asked, wide-reads.Learnt, spare-bit-reads.Asked, spare-bit-reads.Learnt, forward-reads.Asked, forward-reads.Learnt) reads.Pre reads.Post
+abbrev kind : lts.Else5 (wide-reads.Asked, wide-reads.Learnt, spare-bit-reads.Asked, spare-bit-reads.Learnt, walk-reads.Asked, walk-reads.Learnt) reads.Pre reads.Post → lts.Else2 (wide-reads.Asked, wide-reads.Learnt, spare-bit-reads.Asked, spare-bit-reads.Learnt, walk-reads.Asked, walk-reads.Learnt) reads.Pre reads.Post
 kind e = e .before .before .before .before .before
 
-end-is : (f : lts.After-forward (wide-reads.Asked, wide-reads.Learnt, spare-bit-reads.Asked, spare-bit-reads.Learnt, forward-reads.Asked, forward-reads.Learnt) reads.Pre reads.Post) → endCounts (f .forward .result) ≡ endOf (bytes (kind (passed f)))
-end-is f = let k = kind (passed f) in f .forward .ensures .0 ∙ (λ i. walk (tripleIn (body-is (bytes k) i)) (kind-is k i - 1))
+end-is : (f : lts.After-walk (wide-reads.Asked, wide-reads.Learnt, spare-bit-reads.Asked, spare-bit-reads.Learnt, walk-reads.Asked, walk-reads.Learnt) reads.Pre reads.Post) → endCounts (f .walk .result) ≡ endOf (bytes (kind (passed f)))
+end-is f = let k = kind (passed f) in f .walk .ensures .0 ∙ (λ i. walk (tripleIn (body-is (bytes k) i)) (kind-is k i - 1))
 
-ended : (e : lts.After-known-told (wide-reads.Asked, wide-reads.Learnt, spare-bit-reads.Asked, spare-bit-reads.Learnt, forward-reads.Asked, forward-reads.Learnt) reads.Pre reads.Post) → counts (e .before .below .given .0 .0) (e .before .below .given .0 .1 .0) ≡ endOf (bytes (kind (passed (e .before .before .before))))
+ended : (e : lts.After-known-told (wide-reads.Asked, wide-reads.Learnt, spare-bit-reads.Asked, spare-bit-reads.Learnt, walk-reads.Asked, walk-reads.Learnt) reads.Pre reads.Post) → counts (e .before .below .given .0 .0) (e .before .below .given .0 .1 .0) ≡ endOf (bytes (kind (passed (e .before .before .before))))
 ended e = ap endCounts (sym (e .before .below .given .1)) ∙ end-is (e .before .before .before)
 
-several : (e : lts.After-known-told (wide-reads.Asked, wide-reads.Learnt, spare-bit-reads.Asked, spare-bit-reads.Learnt, forward-reads.Asked, forward-reads.Learnt) reads.Pre reads.Post) → 1 ≤ e .before .below .given .0 .0 + e .before .below .given .0 .1 .0 → Refused SeveralRuns ≡ readingOf (bytes (kind (passed (e .before .before .before))))
+several : (e : lts.After-known-told (wide-reads.Asked, wide-reads.Learnt, spare-bit-reads.Asked, spare-bit-reads.Learnt, walk-reads.Asked, walk-reads.Learnt) reads.Pre reads.Post) → 1 ≤ e .before .below .given .0 .0 + e .before .below .given .0 .1 .0 → Refused SeveralRuns ≡ readingOf (bytes (kind (passed (e .before .before .before))))
 several e h =
     let p = passed (e .before .before .before) in
     refused-checked Refused (bytes (kind p)) _
     (several-runs (has-kind (kind p)) (not-short (p .before .before .before)) (not-long (p .before .before)) (no-spare p) (λ z. subst Missing (sym (ended e)) z) (subst Several (ended e) h))
 
 -- the record passes 12 and 13 as well
-readable : (e : lts.Else7 (wide-reads.Asked, wide-reads.Learnt, spare-bit-reads.Asked, spare-bit-reads.Learnt, forward-reads.Asked, forward-reads.Learnt) reads.Pre reads.Post) → Readable (bytes (kind (passed (e .before .before .before .before .before))))
+readable : (e : lts.Else7 (wide-reads.Asked, wide-reads.Learnt, spare-bit-reads.Asked, spare-bit-reads.Learnt, walk-reads.Asked, walk-reads.Learnt) reads.Pre reads.Post) → Readable (bytes (kind (passed (e .before .before .before .before .before))))
 readable e =
     let k = e .before .before in
     let p = passed (k .before .before .before) in
@@ -135,8 +136,8 @@ returns-5 c =
     let s : Tells (c .before .spare-bit .result) (SpareBit (bytes e)) = subst₂ (λ (body : List ℕ) (n : ℕ). Tells (c .before .spare-bit .result) (Some (λ i. bitAt body i ≡ true) (3 * n - 3) (8 * length body))) (body-is (bytes e)) (kind-is e) (c .before .spare-bit .ensures) in
     (refused-checked Refused (bytes e) _ (spare-bit (has-kind e) (not-short (c .before .before .before)) (not-long (c .before .before)) (subst (λ (b : Bool). Tells b (SpareBit (bytes e))) (c .if5 .taken) s)), tt)
 
-forward-requires : tie.Need-forward-requires
-forward-requires c κs =
+walk-requires : tie.Need-walk-requires
+walk-requires c κs =
     let p = c .before .before .before .before in
     let o = kind p in
     ((omega (arith, o .if2 .left), o .before .wide .ensures .1, le-antisymm (p .before .before .if4 .left) (p .before .before .before .if3 .left)), o .before .before .before .before .before .pre)
@@ -166,12 +167,12 @@ returns-9 c =
     let f = k .before .before .before in
     let o = kind (passed f) in
     let n = o .before .wide .result in
-    let numbers = f .forward .last .1 .1 .0 in
-    let lower = f .forward .last .1 .1 .1 .0 in
-    let left = f .forward .last .1 .1 .1 .1 .0 in
-    let bottom = f .forward .last .1 .1 .1 .1 .1 .0 in
+    let numbers = f .walk .last .1 .1 .0 in
+    let lower = f .walk .last .1 .1 .1 .0 in
+    let left = f .walk .last .1 .1 .1 .1 .0 in
+    let bottom = f .walk .last .1 .1 .1 .1 .1 .0 in
     let t = tripleIn (take (length (bytes o) - 1) (drop 1 (bytes o))) in
-    let noted : Noted (Counted (k .before .below .given .0 .0) (k .before .below .given .0 .1 .0)) t n numbers lower left bottom = subst (λ (r : RunCounts). Noted r t n numbers lower left bottom) (k .before .below .given .1) (f .forward .ensures .1) in
+    let noted : Noted (Counted (k .before .below .given .0 .0) (k .before .below .given .0 .1 .0)) t n numbers lower left bottom = subst (λ (r : RunCounts). Noted r t n numbers lower left bottom) (k .before .below .given .1) (f .walk .ensures .1) in
     let here = subst (λ (body : List ℕ). Noted (Counted 0 0) (tripleIn body) n numbers lower left bottom) (body-is (bytes o)) noted in (
       ap Read (kind-is o) ∙ readable-checked Refused (bytes o) (Read (kindOf (bytes o))) (readable c),
       (record { kind = kind-is o; some = omega (arith, o .if2 .left); few = o .before .wide .ensures .1; readable = readable c; unpacked = here .0; lowers = here .1 }, here .2, here .3),
@@ -195,7 +196,7 @@ check-spec =
     returns-4
     spare-bit-requires
     returns-5
-    forward-requires
+    walk-requires
     enum-told
     enum-known-below
     returns-6

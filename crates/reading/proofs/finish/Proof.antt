@@ -1,4 +1,4 @@
--- `reading::finish` meets its contract: a record that is not refused has the body that `backward` asks for, and what that leaves is what the record gives.
+-- `reading::finish` meets its contract: a record that is not refused has the body that the walk back asks for, and what that leaves is what the record gives.
 use mathlib.Core.List.{List}
 use mathlib.Core.Logic.{inl}
 use mathlib.Core.Path.{_≡_, sym, ap, subst, _∙_}
@@ -11,7 +11,8 @@ use Rattle.record.specs.Walk.{Accepted}
 use Rattle.record.specs.Record.{bodyLength, tripleIn}
 use Rattle.record.specs.Read.{kindOf, bodyOf, ShortBody, BytesAfter}
 use Rattle.record.specs.Demand2Read.{readable-accepted}
-use Rattle.reading.specs.Passes.{Unpacked, Lowers, Written}
+use Rattle.steps.specs.Passes.{Unpacked, Lowers}
+use Rattle.backward.specs.Written.{Written}
 use Rattle.reading.specs.Answer.{Ready, triplesOf}
 use Rattle.reading.proofs.finish.Statement.{statement}
 use Rattle.reading.proofs.finish.Tie as tie
@@ -23,7 +24,7 @@ some-byte {bytes} r = let z : ¬ (length bytes ≡ 0) = λ e. r .readable .kind 
 body-is : (bytes : List ℕ) → take (length bytes - 1) (drop 1 bytes) ≡ bodyOf bytes
 body-is bytes = take-all (length bytes - 1) (drop 1 bytes) (omega (arith, length-drop 1 bytes))
 
--- what `backward` asks of it
+-- what the walk back asks of it
 body-asked : {bytes : List ℕ} {n earliest : ℕ} {numbers lower : List ℕ} → Ready bytes n numbers lower → earliest < n
     → let body = take (length bytes - 1) (drop 1 bytes) in ((earliest < n) × (n ≤ 255) × (length body ≡ bodyLength n) × Accepted (tripleIn body) n) × (Unpacked (tripleIn body) n numbers × Lowers (tripleIn body) n lower)
 body-asked {bytes} {n} {earliest} {numbers} {lower} r within =
@@ -38,17 +39,17 @@ by-record : (bytes : List ℕ) {n earliest : ℕ} {labels₀ right₀ top₀ lab
     → Written (triplesOf bytes) n earliest labels₀ right₀ top₀ labels right top
 by-record bytes {n} {earliest} {labels₀} {right₀} {top₀} {labels} {right} {top} = subst (λ (body : List ℕ). Written (tripleIn body) n earliest labels₀ right₀ top₀ labels right top) (body-is bytes)
 
-sub-backward : tie.Need-sub-backward
-sub-backward c = some-byte (c .before .before .before .before .pre .0)
+sub-walk : tie.Need-sub-walk
+sub-walk c = some-byte (c .before .before .before .before .pre .0)
 
-part-backward-start : tie.Need-part-backward-start
-part-backward-start c = some-byte (c .before .before .before .before .pre .0)
+part-walk-start : tie.Need-part-walk-start
+part-walk-start c = some-byte (c .before .before .before .before .pre .0)
 
-part-backward-end : tie.Need-part-backward-end
-part-backward-end c = search needs
+part-walk-end : tie.Need-part-walk-end
+part-walk-end c = search needs
 
-backward-requires : tie.Need-backward-requires
-backward-requires c κs = let s = c .before .before .before .before .before .before .before .before in let p = s .pre .1 in let a = body-asked (s .pre .0) (p .0) in (a .0, (a .1, (p .1, p .2, p .3)))
+walk-requires : tie.Need-walk-requires
+walk-requires c κs = let s = c .before .before .before .before .before .before .before .before in let p = s .pre .1 in let a = body-asked (s .pre .0) (p .0) in (a .0, (a .1, (p .1, p .2, p .3)))
 
 same-length : tie.Need-same-length
 same-length c = search needs
@@ -62,16 +63,16 @@ same-length-3 c = search needs
 returns : tie.Need-returns
 returns c =
     let b = c .before .before .before .before .before .before in
-    by-record (b .before .before .before .before .before .before .before .before .before .args .«record» .now) (b .backward .ensures)
+    by-record (b .before .before .before .before .before .before .before .before .before .args .«record» .now) (b .walk .ensures)
 
 pub finish-spec : {M : Type 1} → statement M
 finish-spec =
     tie.close
     (tie.spec
-    sub-backward
-    part-backward-start
-    part-backward-end
-    backward-requires
+    sub-walk
+    part-walk-start
+    part-walk-end
+    walk-requires
     same-length
     same-length-2
     same-length-3

@@ -2,7 +2,7 @@
 use mathlib.Core.Path.{_≡_, refl, sym, subst, _∙_}
 use native.Mathlib.Omega.{arith}
 use Rattle.record.specs.Way.{up, down}
-use Rattle.reading.specs.Passes.{Starts}
+use Rattle.steps.specs.Passes.{Starts}
 use Rattle.reading.specs.Answer.{readingOf, triplesOf, Ready, Reads}
 use Rattle.reading.specs.declared.Reading.{Reading}
 use Rattle.reading.specs.declared.Reading.the-variants.{Read}

@@ -1,0 +1,2 @@
+-- The walk back.
+pub mod Written

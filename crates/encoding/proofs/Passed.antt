@@ -1,0 +1,279 @@
+-- The pass over the labels: what holds after k triples, when a label is turned away, and how the next label is taken.
+-- The runs of the labels seen are those of the record's theory, and the two stacks have one label of each.
+use mathlib.Core.Bool.{Bool, true, false}
+use mathlib.Core.List.{List}
+use mathlib.Core.Logic.{_≢_, inl, inr}
+use mathlib.Core.Path.{_≡_, refl, sym, ap, subst, _∙_}
+use Prim.Native.Nat.{ℕ, zero, suc, _+_, _-_, _≤_, _<_}
+use native.Mathlib.Omega.{arith}
+use native.Mathlib.Decide.{decLt}
+use borrow.Author.Tests.{lt-ltb, le-ltb, ltb-true, ltb-false}
+use lib.Dec.{ltb}
+use lib.ListN.{length, getD, set, length-set, replicate, length-replicate}
+use Rattle.bits.specs.Bit.{bit, GroupSet, pack}
+use Rattle.finite.specs.Decide.{le-or-lt, Tells, holds-tells}
+use Rattle.record.specs.declared.Label.{Label}
+use Rattle.record.specs.Labels.{labelAt, LabelOutside, LabelTwice, EachOnce}
+use Rattle.record.specs.Barred.{Baxter}
+use Rattle.record.specs.Triple.{Triple, triple, dec-earlier, tripleAt}
+use Rattle.record.specs.Record.{bodyBit}
+use Rattle.record.specs.Way.{Way, up, down, Past}
+use Rattle.record.specs.Runs.{Runs, Inside, ahead, Before, Step, reach-chained, one-way, fresh-past, chained-free}
+use Rattle.record.specs.Decode.{bitsOf, turnOf}
+use Rattle.record.specs.NextTo.{Seen, NextTo, not-barred-next, next-not-barred}
+use Rattle.record.specs.Forward.{Takes, leave, take, joined-takes, triple-turn, runsOf, Stage, stage-first, step-stage, free-step}
+use Rattle.record.specs.Demand2.{each-once}
+use Rattle.encoding.specs.Encoded.{Encoded, blocked}
+use Rattle.encoding.specs.Picks.{Picks, none, Nearest, inside-within, not-past-before, past-not-before}
+use Rattle.encoding.specs.Marks.{Marks, marks-none, marks-more, mark-tells}
+use Rattle.encoding.proofs.Stack.{labelIn, stackOf, nearest-of, label-kept, picks-ahead, picks-take}
+use Rattle.encoding.proofs.Body.{Partly, tripleNumber, partly-none, partly-more, partly-all}
+
+-- after k triples, that is, k + 1 labels
+pub record Passed (labels : List ℕ) (k : ℕ) (seen : List ℕ) (below above : List Label) (p q : ℕ) (last : ℕ) (body : List ℕ) : Type 0 where
+  pub within : k < length labels
+  pub last-is : last ≡ labelAt labels (suc k)
+  pub stage : Stage (labelAt labels) k (runsOf (labelAt labels) k)
+  pub fresh : (j : ℕ) → j ≤ k → ¬ Seen (labelAt labels) j (labelAt labels (suc j))
+  pub next : (j : ℕ) → 1 ≤ j → j ≤ k → NextTo (labelAt labels) j
+  pub few : p + q ≤ k
+  pub count-below : p ≡ length (runsOf (labelAt labels) k .stack down)
+  pub count-above : q ≡ length (runsOf (labelAt labels) k .stack up)
+  pub picks-below : Picks down (stackOf below p) (runsOf (labelAt labels) k .stack down)
+  pub picks-above : Picks up (stackOf above q) (runsOf (labelAt labels) k .stack up)
+  pub floor : labelIn below 0 ≡ 0
+  pub ceiling : labelIn above 0 ≡ 255
+  pub below-long : length below ≡ 255
+  pub above-long : length above ≡ 255
+  pub seen-long : length seen ≡ 257
+  pub marks : Marks seen (labelAt labels) (suc (suc k))
+  pub partly : Partly (tripleAt (labelAt labels)) k body
+
+-- ---- a step's counts
+toward : (turn way : Way) → ℕ
+toward up up = 1
+toward up down = 0
+toward down up = 0
+toward down down = 1
+
+ahead-length : (turn way : Way) (z : Runs) → length (ahead turn z way) + toward turn way ≡ length (z .stack way) + 1
+unfolding toward
+ahead-length up up z = refl
+ahead-length up down z = omega arith
+ahead-length down up z = omega arith
+ahead-length down down z = refl
+
+takes-length : {A : Type 0} {b : Bool} {xs rest : List A} → Takes b xs rest → length rest + bit b ≡ length xs
+takes-length leave = omega arith
+takes-length take = omega arith
+
+bit-le : (b : Bool) → bit b ≤ 1
+bit-le true = omega arith
+bit-le false = omega arith
+
+-- the third bit
+abbrev falls : Triple → Bool
+falls (triple first second third) = third
+
+toward-down : (t : Triple) → toward (turnOf t) down ≡ bit (falls t)
+unfolding toward
+toward-down (triple a b false) = refl
+toward-down (triple a b true) = refl
+
+toward-up : (t : Triple) → toward (turnOf t) up ≡ 1 - bit (falls t)
+unfolding toward
+toward-up (triple a b false) = refl
+toward-up (triple a b true) = refl
+
+-- ---- the test for a label past the nearest run
+abbrev nearest : (lo hi : ℕ) → Way → ℕ
+nearest lo hi up = hi
+nearest lo hi down = lo
+
+blocked-tells : (last v lo hi : ℕ) (t : Triple) → Tells (falls t) (v < last) → Tells (blocked last v lo hi) (Past (turnOf t) (nearest lo hi (turnOf t)) v)
+blocked-tells last v lo hi (triple a b true) h = rw (lt-ltb v last h) (go (ltb v lo) refl)
+  where
+    go : (x : Bool) → ltb v lo ≡ x → Tells x (Past down lo v)
+    go true e = record { less = ltb-true v lo e }
+    go false e = λ p. omega (arith, ltb-false v lo e)
+blocked-tells last v lo hi (triple a b false) h = let l : last ≤ v = omega arith in rw (le-ltb v last l) (go (ltb hi v) refl)
+  where
+    go : (x : Bool) → ltb hi v ≡ x → Tells x (Past up hi v)
+    go true e = record { less = ltb-true hi v e }
+    go false e = λ p. omega (arith, ltb-false hi v e)
+
+-- ---- one turn
+module _ {labels : List ℕ} {k : ℕ} {seen : List ℕ} {below above : List Label} {p q last : ℕ} {body : List ℕ} (s : Passed labels k seen below above p q last body)
+    (more : k + 1 < length labels) (few : length labels ≤ 255) (inside : ¬ LabelOutside labels) where
+  abbrev f : ℕ → ℕ
+  f = labelAt labels
+
+  abbrev v : ℕ
+  v = f (suc (suc k))
+
+  abbrev t : Triple
+  t = tripleAt f (suc (suc k))
+
+  abbrev z : Runs
+  z = runsOf f k
+
+  pub label : (1 ≤ v) × (v ≤ 255)
+  label =
+      let lo : ¬ (v < 1) = λ h. inside (suc (suc k), omega arith, omega arith, inl h) in
+      let hi : ¬ (length labels < v) = λ h. inside (suc (suc k), omega arith, omega arith, inr h) in
+      omega arith
+
+  -- the bits of the triple, as marks
+  pub first-bit : getD seen (v + 1) 0 ≡ bit (bitsOf t up)
+  unfolding tripleAt
+  first-bit = s .marks (v + 1) (omega (arith, label))
+
+  pub second-bit : getD seen (v - 1) 0 ≡ bit (bitsOf t down)
+  unfolding tripleAt
+  second-bit = s .marks (v - 1) (omega (arith, label))
+
+  falls-tells : Tells (falls t) (v < last)
+  unfolding tripleAt
+  falls-tells = subst (λ (x : ℕ). Tells (falls t) (v < x)) (sym (s .last-is)) (holds-tells (decLt v (f (suc k))))
+
+  pub third-bit : bit (ltb v last) ≡ bit (falls t)
+  third-bit = go (falls t) falls-tells
+    where
+      go : (b : Bool) → Tells b (v < last) → bit (ltb v last) ≡ bit b
+      go true h = ap bit (lt-ltb v last h)
+      go false h = let l : last ≤ v = omega arith in ap bit (le-ltb v last l)
+
+  -- what the tops of the stacks are
+  near : (way : Way) → Nearest way (nearest (labelIn below p) (labelIn above q) way) v (z .stack way)
+  near up = nearest-of above q (λ l. omega (arith, s .ceiling, label)) (s .picks-above)
+  near down = nearest-of below p (λ l. omega (arith, s .floor, label)) (s .picks-below)
+
+  past-tells : Tells (blocked last v (labelIn below p) (labelIn above q)) (Past (turnOf t) (nearest (labelIn below p) (labelIn above q) (turnOf t)) v)
+  past-tells = blocked-tells last v (labelIn below p) (labelIn above q) t falls-tells
+
+  -- a label that is turned away: seen before, or past the nearest run
+  pub turned-away : (r : ℕ) → r ≡ bit (blocked last v (labelIn below p) (labelIn above q)) → r + getD seen v 0 ≢ 0 → ¬ Baxter labels
+  turned-away r e away b = go (blocked last v (labelIn below p) (labelIn above q)) e past-tells
+    where
+      fresh : ¬ Seen f (suc k) v
+      fresh (i, c, d, h) = omega (arith, b .each-once .once i (suc (suc k)) c (omega arith) (omega arith) (omega arith) h)
+
+      unseen : getD seen v 0 ≡ 0
+      unseen = let m = mark-tells (dec-earlier f v (suc (suc k))) (getD seen v 0) (s .marks v (omega (arith, label))) in
+          let n : getD seen v 0 ≢ 1 = λ h. fresh (m .0 h) in
+          omega (arith, m .2)
+
+      go : (x : Bool) → r ≡ bit x → Tells x (Past (turnOf t) (nearest (labelIn below p) (labelIn above q) (turnOf t)) v) → ⊥
+      go false h tell = omega (arith, unseen)
+      go true h tell = past-not-before (near (turnOf t)) tell
+          (chained-free (s .stage .faithful) (s .stage .inside) fresh (not-barred-next f (length labels) (b .each-once) (b .not-barred) (suc k) (omega arith) (omega arith) (turnOf t)))
+
+  -- ---- a label that is taken
+  module _ (r : ℕ) (r-is : r ≡ bit (blocked last v (labelIn below p) (labelIn above q))) (stays : r + getD seen v 0 ≡ 0) where
+    taken-fresh : ¬ Seen f (suc k) v
+    taken-fresh = mark-tells (dec-earlier f v (suc (suc k))) (getD seen v 0) (s .marks v (omega (arith, label))) .1 (omega arith)
+
+    free : Before (turnOf t) v (z .stack (turnOf t))
+    free = not-past-before (s .stage .faithful) taken-fresh (near (turnOf t)) (go (blocked last v (labelIn below p) (labelIn above q)) r-is past-tells)
+      where
+        go : (x : Bool) → r ≡ bit x → Tells x (Past (turnOf t) (nearest (labelIn below p) (labelIn above q) (turnOf t)) v) → ¬ Past (turnOf t) (nearest (labelIn below p) (labelIn above q) (turnOf t)) v
+        go true e tell = absurd (omega arith)
+        go false e tell = tell
+
+    taken : Step (turnOf t) (bitsOf t) v z (runsOf f (suc k))
+    unfolding runsOf
+    taken = free-step f k z (s .stage) (label .0) taken-fresh free
+
+    -- the runs on a side, after the step and before it
+    height : (way : Way) → length (runsOf f (suc k) .stack way) + bit (bitsOf t way) + toward (turnOf t) way ≡ length (z .stack way) + 1
+    height way = omega (arith, takes-length (joined-takes (taken .joins way)), ahead-length (turnOf t) way z)
+
+    pub enough-below : bit (falls t) + bit (bitsOf t down) ≤ p + 1
+    enough-below = omega (arith, height down, toward-down t, s .count-below)
+
+    pub enough-above : 1 - bit (falls t) + bit (bitsOf t up) ≤ q + 1
+    enough-above = omega (arith, height up, toward-up t, s .count-above)
+
+    next-to : NextTo f (suc k)
+    next-to way = one-way (turnOf t) way turns (reach-chained (s .stage .faithful) (s .stage .inside) (fresh-past (s .stage .faithful) (s .stage .inside) taken-fresh turns) free)
+      where
+        turns : Past (turnOf t) (f (suc k)) v
+        turns = triple-turn f (suc k) (λ e. taken-fresh (suc k, omega arith, omega arith, e))
+
+    picks-after : (way : Way) (stack : List Label) (h : ℕ) → h + 1 < length stack → h ≡ length (z .stack way) → Picks way (stackOf stack h) (z .stack way)
+        → (new : ℕ) → new ≡ length (runsOf f (suc k) .stack way) → Picks way (stackOf (set stack (h + 1) (record { 0 = last })) new) (runsOf f (suc k) .stack way)
+    picks-after way stack h room size picks new e =
+        let x : Label = record { 0 = last } in
+        let w = inside-within z last (subst (Inside z) (sym (s .last-is)) (s .stage .inside)) way in
+        subst (λ (m : ℕ). Picks way (stackOf (set stack (h + 1) x) m) (runsOf f (suc k) .stack way)) (sym e)
+        (picks-take (set stack (h + 1) x) (joined-takes (taken .joins way)) (picks-ahead (turnOf t) way z stack h x room size picks w))
+
+    pub taken-passed : (p-after q-after : ℕ) (body-after : List ℕ) → p-after + (bit (falls t) + bit (bitsOf t down)) ≡ p + 1 → q-after + (1 - bit (falls t) + bit (bitsOf t up)) ≡ q + 1
+        → GroupSet body body-after k (tripleNumber t)
+        → Passed labels (suc k) (set seen v 1) (set below (p + 1) (record { 0 = last })) (set above (q + 1) (record { 0 = last })) p-after q-after v body-after
+    taken-passed p-after q-after body-after pe qe g = record {
+      within = omega arith;
+      last-is = refl;
+      stage = step-stage f k (s .stage) taken;
+      fresh = λ j h. elim (le-or-lt j k) [ inl l ↦ s .fresh j l | inr l ↦ let e : j ≡ suc k = omega arith in subst (λ (i : ℕ). ¬ Seen f i (f (suc i))) (sym e) taken-fresh ];
+      next = λ j a h. elim (le-or-lt j k) [ inl l ↦ s .next j a l | inr l ↦ let e : j ≡ suc k = omega arith in subst (NextTo f) (sym e) next-to ];
+      few = omega (arith, pe, qe, s .few, bit-le (falls t));
+      count-below = below-size;
+      count-above = above-size;
+      picks-below = picks-after down below p (omega (arith, s .below-long, s .few)) (s .count-below) (s .picks-below) p-after below-size;
+      picks-above = picks-after up above q (omega (arith, s .above-long, s .few)) (s .count-above) (s .picks-above) q-after above-size;
+      floor = label-kept below (p + 1) 0 (record { 0 = last }) (omega arith) ∙ s .floor;
+      ceiling = label-kept above (q + 1) 0 (record { 0 = last }) (omega arith) ∙ s .ceiling;
+      below-long = length-set below (p + 1) (record { 0 = last }) ∙ s .below-long;
+      above-long = length-set above (q + 1) (record { 0 = last }) ∙ s .above-long;
+      seen-long = length-set seen v 1 ∙ s .seen-long;
+      marks = marks-more seen f (suc (suc k)) (s .seen-long) (omega arith) (omega (arith, label)) (s .marks);
+      partly = partly-more (tripleAt f) k body body-after (s .partly) g;
+    }
+      where
+        below-size : p-after ≡ length (runsOf f (suc k) .stack down)
+        below-size = omega (arith, height down, toward-down t, s .count-below)
+
+        above-size : q-after ≡ length (runsOf f (suc k) .stack up)
+        above-size = omega (arith, height up, toward-up t, s .count-above)
+
+-- ---- the start and the end
+pub passed-first : (labels body : List ℕ) → 1 ≤ length labels → length labels ≤ 255 → ¬ LabelOutside labels → body ≡ replicate 96 0
+    → Passed labels 0 (set (replicate 257 0) (labelAt labels 1) 1) (replicate 255 (record { 0 = 0 })) (replicate 255 (record { 0 = 255 })) 0 0 (labelAt labels 1) body
+unfolding runsOf stackOf
+passed-first labels body some few inside e = record {
+  within = some;
+  last-is = refl;
+  stage = stage-first (labelAt labels) (runsOf (labelAt labels) 0) (λ way. refl) (λ way. refl);
+  fresh = λ j h (i, a, b, d). omega arith;
+  next = λ j a h. absurd (omega arith);
+  few = omega arith;
+  count-below = refl;
+  count-above = refl;
+  picks-below = none;
+  picks-above = none;
+  floor = refl;
+  ceiling = refl;
+  below-long = length-replicate {A = Label} 255 (record { 0 = 0 });
+  above-long = length-replicate {A = Label} 255 (record { 0 = 255 });
+  seen-long = length-set (replicate 257 0) (labelAt labels 1) 1 ∙ length-replicate {A = ℕ} 257 0;
+  marks = marks-more (replicate 257 0) (labelAt labels) 1 (length-replicate {A = ℕ} 257 0) (omega arith) small (marks-none (labelAt labels));
+  partly = partly-none (tripleAt (labelAt labels)) body e;
+}
+  where
+    small : labelAt labels 1 < 257
+    small = let hi : ¬ (length labels < labelAt labels 1) = λ h. inside (1, omega arith, omega arith, inr h) in omega arith
+
+pub passed-all : (labels : List ℕ) (k : ℕ) (seen : List ℕ) (below above : List Label) (p q last : ℕ) (body : List ℕ) → Passed labels k seen below above p q last body → length labels ≡ suc k → ¬ LabelOutside labels
+    → Encoded true labels body
+passed-all labels k seen below above p q last body s e inside = (record { each-once = each; not-barred = next-not-barred (labelAt labels) (length labels) each (λ j a b. s .next j a (omega arith)) }, full)
+  where
+    each : EachOnce (labelAt labels) (length labels)
+    each = each-once labels inside single
+      where
+        single : ¬ LabelTwice labels
+        single (zero, a, b, h) = omega arith
+        single (suc j, a, b, h) = s .fresh j (omega arith) h
+
+    full : body ≡ pack (bodyBit (tripleAt (labelAt labels)) (length labels)) 96
+    full = let h : k ≡ length labels - 1 = omega arith in partly-all (tripleAt (labelAt labels)) (length labels) body (subst (λ (j : ℕ). Partly (tripleAt (labelAt labels)) j body) h (s .partly))

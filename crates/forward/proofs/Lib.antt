@@ -1,0 +1,3 @@
+-- Laws that the proof of the walk cites.
+pub mod Count
+pub mod Starts

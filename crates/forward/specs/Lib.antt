@@ -1,0 +1,2 @@
+-- The walk forward.
+pub mod Noted

@@ -1,0 +1,4 @@
+-- What the program planlist prints.
+pub mod Text
+-- Laws.
+pub mod Lines

@@ -1,0 +1,35 @@
+-- What the question answers. "Order: records 9, 10, 11, 14, 12, 13, then 16 and 17 for a question."
+use mathlib.Core.List.{List}
+use mathlib.Core.Logic.{_⊎_, ite}
+use mathlib.Core.Path.{_≡_}
+use Prim.Native.Nat.{ℕ, _<_}
+use native.Mathlib.Decide.{decLt, ℕ-discrete}
+use Rattle.finite.specs.Decide.{holds, dec-⊎}
+use Rattle.record.specs.Labels.{labelAt}
+use Rattle.record.specs.Read.{kindOf, labelsOf}
+use Rattle.record.specs.Checked.{checked}
+use Rattle.record.specs.declared.Refusal.the-variants.{PositionOutside, SamePosition}
+use Rattle.drawing.specs.Drawing.{roomAt}
+use Rattle.drawing.specs.Relation.{relationOf}
+use Rattle.drawing.specs.Touch.{dec-touch}
+use Rattle.questions.specs.declared.QuestionAnswer.{QuestionAnswer}
+use Rattle.questions.specs.declared.QuestionAnswer.the-variants.{Related, Refused}
+
+-- "asked position outside 1 to n"
+abbrev pub Outside : (position n : ℕ) → Type 0
+Outside position n = (position ≡ 0) ⊎ (n < position)
+
+unfoldable pub dec-outside : (first second n : ℕ) → Dec (Outside first n ⊎ Outside second n)
+unfolding dec-⊎ decLt ℕ-discrete
+dec-outside first second n =
+    dec-⊎ (dec-⊎ (ℕ-discrete first 0) (decLt n first)) (dec-⊎ (ℕ-discrete second 0) (decLt n second))
+
+-- the answer for a record and two positions
+abbrev pub questionAnswer : List ℕ → (first second : ℕ) → QuestionAnswer
+questionAnswer bytes first second =
+    let n = kindOf bytes in
+    let f = labelAt (labelsOf bytes) in
+    checked Refused bytes
+    (ite (dec-outside first second n) (Refused PositionOutside)
+    (ite (ℕ-discrete first second) (Refused SamePosition)
+    (Related (relationOf f first second) (holds (dec-touch (roomAt f n first) (roomAt f n second))))))

@@ -1,0 +1,68 @@
+-- Demand 1 for questions: "either its result or one of the numbered refusals, in the stated order". "A cause found gives its number,
+-- and no number comes without its cause."
+use mathlib.Core.Bool.{Bool}
+use mathlib.Core.List.{List}
+use mathlib.Core.Logic.{_≢_, _⊎_, ite, if-pos, if-neg}
+use mathlib.Core.Path.{_≡_, sym, _∙_}
+use Prim.Native.Nat.{ℕ}
+use native.Mathlib.Decide.{ℕ-discrete}
+use Rattle.finite.specs.Decide.{Tells, holds, holds-tells, tells-holds}
+use Rattle.record.specs.Labels.{labelAt}
+use Rattle.record.specs.Read.{kindOf, labelsOf}
+use Rattle.record.specs.Checked.{Readable, Refuses, checked-has, refused-checked, readable-checked}
+use Rattle.record.specs.declared.Refusal.{Refusal}
+use Rattle.record.specs.declared.Refusal.the-variants.{PositionOutside, SamePosition}
+use Rattle.drawing.specs.Drawing.{roomAt}
+use Rattle.drawing.specs.Relation.{relationOf}
+use Rattle.drawing.specs.Touch.{Touch, dec-touch}
+use Rattle.questions.specs.Answer.{Outside, dec-outside, questionAnswer}
+use Rattle.questions.specs.declared.QuestionAnswer.{QuestionAnswer}
+use Rattle.questions.specs.declared.QuestionAnswer.the-variants.{Related, Refused}
+
+-- how the room at position `first` stands to the one at `second` in the drawing of the record, and whether they touch
+abbrev pub Touching : (bytes : List ℕ) (first second : ℕ) → Type 0
+Touching bytes first second = let f = labelAt (labelsOf bytes) in Touch (roomAt f (kindOf bytes) first) (roomAt f (kindOf bytes) second)
+
+pub data QuestionSays (bytes : List ℕ) (first second : ℕ) : QuestionAnswer → Type 0 where
+  refused-record : {refusal : Refusal} → Refuses bytes refusal → QuestionSays bytes first second (Refused refusal)
+  outside : Readable bytes → Outside first (kindOf bytes) ⊎ Outside second (kindOf bytes)
+      → QuestionSays bytes first second (Refused PositionOutside)
+  same : Readable bytes → ¬ (Outside first (kindOf bytes) ⊎ Outside second (kindOf bytes)) → first ≡ second
+      → QuestionSays bytes first second (Refused SamePosition)
+  related : {touch : Bool} → Readable bytes → ¬ (Outside first (kindOf bytes) ⊎ Outside second (kindOf bytes)) → first ≢ second
+      → Tells touch (Touching bytes first second)
+      → QuestionSays bytes first second (Related (relationOf (labelAt (labelsOf bytes)) first second) touch)
+
+module _ (bytes : List ℕ) (first second : ℕ) where
+  abbrev f : ℕ → ℕ
+  f = labelAt (labelsOf bytes)
+
+  abbrev touching : Dec (Touching bytes first second)
+  touching = dec-touch (roomAt f (kindOf bytes) first) (roomAt f (kindOf bytes) second)
+
+  -- each answer has its cause
+  pub demand1-question-cause : QuestionSays bytes first second (questionAnswer bytes first second)
+  demand1-question-cause =
+      checked-has (QuestionSays bytes first second) Refused bytes _ (λ refusal cause. refused-record cause)
+      (go (dec-outside first second (kindOf bytes)) (ℕ-discrete first second))
+    where
+      go : (d : Dec (Outside first (kindOf bytes) ⊎ Outside second (kindOf bytes))) (e : Dec (first ≡ second)) → Readable bytes
+          → QuestionSays bytes first second (ite d (Refused PositionOutside) (ite e (Refused SamePosition)
+          (Related (relationOf f first second) (holds touching))))
+      go (yes o) e all = outside all o
+      go (no o) (yes e) all = same all o e
+      go (no o) (no e) all = related all o e (holds-tells touching)
+
+  -- and an answer with its cause is the answer
+  pub demand1-question-answer : {answer : QuestionAnswer} → QuestionSays bytes first second answer
+      → answer ≡ questionAnswer bytes first second
+  demand1-question-answer (refused-record cause) = refused-checked Refused bytes _ cause
+  demand1-question-answer (outside all o) =
+      sym (if-pos (dec-outside first second (kindOf bytes)) o _ _) ∙ readable-checked Refused bytes _ all
+  demand1-question-answer (same all o e) =
+      sym (if-neg (dec-outside first second (kindOf bytes)) o _ _ ∙ if-pos (ℕ-discrete first second) e _ _)
+      ∙ readable-checked Refused bytes _ all
+  demand1-question-answer (related {touch} all o e t) =
+      (λ i. Related (relationOf f first second) (sym (tells-holds touching touch t) i))
+      ∙ sym (if-neg (dec-outside first second (kindOf bytes)) o _ _ ∙ if-neg (ℕ-discrete first second) e _ _)
+      ∙ readable-checked Refused bytes _ all

@@ -1,0 +1,3 @@
+-- The question.
+pub mod Answer
+pub mod Demand1
