@@ -1,11 +1,10 @@
 -- What is found in the lists of corners is found in the room list, and back: room i of the list is the room with the corners at place i.
 use mathlib.Core.Path.{_≡_, sym, ap, subst, _∙_}
 use mathlib.Core.Logic.{inl, inr}
-use mathlib.Core.Bool.{Bool, true, false, not}
+use mathlib.Core.Bool.{Bool, true, false}
 use mathlib.Core.List.{List}
 use Prim.Native.Nat.{ℕ, _≤_, _<_}
 use native.Mathlib.Omega.{arith}
-use lib.Dec.{eqb}
 use lib.ListN.{length, getD}
 use Rattle.finite.specs.Decide.{Tells, le-or-lt}
 use Rattle.finite.specs.Search.{Some}
@@ -13,20 +12,20 @@ use Rattle.finite.specs.Sum.{sum, sum-same}
 use Rattle.drawing.specs.declared.Room.{Room}
 use Rattle.rooms.specs.Outline.{roomIn, SomeRoom, least, greatest, outline}
 use Rattle.rooms.specs.OutlineLaws.{least-le, greatest-ge, least-largest, greatest-smallest, rooms-within-outline}
-use Rattle.rooms.specs.Causes.{RoomSize, Overlap, Uncovered}
+use Rattle.rooms.specs.Causes.{RoomSize, Overlap}
 use Rattle.rooms.specs.Corners.{cornersAt, length-rooms, room-of, OneLength}
-use Rattle.checks.specs.CornerLists.{roomsIn, Flat, SharesEarlier}
+use Rattle.checks.specs.CornerLists.{Flat, SharesEarlier}
+use Rattle.corners.specs.ListPlan.{roomsFrom, listPlan, outlineOf}
 use Rattle.checks.specs.Area.{areaOf}
-use Rattle.checks.specs.Areas.{areasOf, uncovered→areas-less, areas-differ→uncovered}
+use Rattle.checks.specs.Areas.{areasOf}
 use Rattle.checks.specs.Accepted.{wide-and-tall}
-use Rattle.checks.proofs.Tell.{differ-tells}
 
 module _ (lefts bottoms rights tops : List ℕ) where
   abbrev n : ℕ
   n = length lefts
 
   abbrev rooms : List Room
-  rooms = roomsIn lefts bottoms rights tops
+  rooms = roomsFrom lefts bottoms rights tops
 
   abbrev pub corners : ℕ → Room
   corners = cornersAt lefts bottoms rights tops
@@ -85,35 +84,27 @@ module _ (lefts bottoms rights tops : List ℕ) where
     greatest-smallest g n (greatest f n) (λ i h. omega (arith, same i h, greatest-ge f n i h)),
   ))
 
-  -- the box of the lists' least and greatest corners
-  pub record BoxOf (box : Room) : Type 0 where
-    pub left : box .left ≡ least (λ i. getD lefts i 0) n
-    pub bottom : box .bottom ≡ least (λ i. getD bottoms i 0) (length bottoms)
-    pub right : box .right ≡ greatest (λ i. getD rights i 0) (length rights)
-    pub top : box .top ≡ greatest (λ i. getD tops i 0) (length tops)
+  -- the box of the lists' least and greatest corners is the outline
+  box-is-outline : OneLength lefts bottoms rights tops → 0 < n → (box : Room) → box ≡ outlineOf (listPlan lefts bottoms rights tops) → box ≡ outline rooms
+  box-is-outline lengths some box is = is ∙ (λ j. record {
+    left = least-same (λ i. getD lefts i 0) (λ i. roomIn rooms i .left) some (side (λ room. room .left)) j;
+    bottom = (ap (least _) (lengths .bottoms-length) ∙ least-same (λ i. getD bottoms i 0) (λ i. roomIn rooms i .bottom) some (side (λ room. room .bottom))) j;
+    right = (ap (greatest _) (lengths .rights-length) ∙ greatest-same (λ i. getD rights i 0) (λ i. roomIn rooms i .right) (side (λ room. room .right))) j;
+    top = (ap (greatest _) (lengths .tops-length) ∙ greatest-same (λ i. getD tops i 0) (λ i. roomIn rooms i .top) (side (λ room. room .top))) j;
+  })
+    where
+      side : (corner : Room → ℕ) (i : ℕ) → i < n → corner (corners i) ≡ corner (roomIn rooms i)
+      side corner i h = ap corner (sym (at i h))
 
-  -- is the outline
-  box-is-outline : OneLength lefts bottoms rights tops → 0 < n → (box : Room) → BoxOf box → box ≡ outline rooms
-  box-is-outline lengths some box is = λ j. record {
-    left = (is .left ∙ least-same (λ i. getD lefts i 0) (λ i. roomIn rooms i .left) some (λ i h. ap (λ (room : Room). room .left) (sym (at i h)))) j;
-    bottom = (is .bottom ∙ ap (least _) (lengths .bottoms-length) ∙ least-same (λ i. getD bottoms i 0) (λ i. roomIn rooms i .bottom) some (λ i h. ap (λ (room : Room). room .bottom) (sym (at i h)))) j;
-    right = (is .right ∙ ap (greatest _) (lengths .rights-length) ∙ greatest-same (λ i. getD rights i 0) (λ i. roomIn rooms i .right) (λ i h. ap (λ (room : Room). room .right) (sym (at i h)))) j;
-    top = (is .top ∙ ap (greatest _) (lengths .tops-length) ∙ greatest-same (λ i. getD tops i 0) (λ i. roomIn rooms i .top) (λ i h. ap (λ (room : Room). room .top) (sym (at i h)))) j;
-  }
-
-  pub box-sides : OneLength lefts bottoms rights tops → 0 < n → ¬ RoomSize rooms → (box : Room) → BoxOf box → (box .left ≤ box .right) × (box .bottom ≤ box .top)
+  pub box-sides : OneLength lefts bottoms rights tops → 0 < n → ¬ RoomSize rooms → (box : Room) → box ≡ outlineOf (listPlan lefts bottoms rights tops) → (box .left ≤ box .right) × (box .bottom ≤ box .top)
   box-sides lengths some size box is =
       let h : 0 < length rooms = omega (arith, count) in
       rw (box-is-outline lengths some box is) (omega (arith, wide-and-tall rooms size 0 h, rooms-within-outline rooms 0 h))
 
-  pub areas-tell : OneLength lefts bottoms rights tops → 0 < n → ¬ Overlap rooms → (box : Room) → BoxOf box → (total whole : ℕ) → total ≡ sum (λ i. areaOf (corners i)) 0 n → whole ≡ areaOf box
-      → Tells (not (eqb total whole)) (Uncovered rooms)
-  areas-tell lengths some apart box is total whole t w = differ-tells (Uncovered rooms) total whole
-      (λ differ. areas-differ→uncovered rooms apart (λ e. differ (all ∙ e ∙ sym outer)))
-      (λ left-over e. omega (arith, all, outer, uncovered→areas-less rooms apart left-over))
-    where
-      all : total ≡ areasOf rooms
-      all = t ∙ places-areas
+  -- the areas as the code adds them up
+  pub places-total : {total : ℕ} → total ≡ sum (λ i. areaOf (corners i)) 0 n → total ≡ areasOf rooms
+  places-total t = t ∙ places-areas
 
-      outer : whole ≡ areaOf (outline rooms)
-      outer = w ∙ ap areaOf (box-is-outline lengths some box is)
+  pub box-whole : OneLength lefts bottoms rights tops → 0 < n → (box : Room) → box ≡ outlineOf (listPlan lefts bottoms rights tops) → {whole : ℕ} → whole ≡ areaOf box
+      → whole ≡ areaOf (outline rooms)
+  box-whole lengths some box is w = w ∙ ap areaOf (box-is-outline lengths some box is)

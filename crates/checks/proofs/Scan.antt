@@ -1,7 +1,8 @@
--- A loop that looks at the numbers below n in turn: what one more number does to whether some number has been found, and to a least, a greatest or a sum.
+-- A loop that looks at the numbers below n in turn: what one more number does to whether some number has been found, and to a least, a
+-- greatest or a sum.
 use mathlib.Core.Path.{_≡_, refl, subst}
 use mathlib.Core.Logic.{inl, inr}
-use Prim.Native.Nat.{ℕ, _+_, _≤_, zero-le}
+use Prim.Native.Nat.{ℕ, _+_, _*_, _≤_, zero-le}
 use native.Mathlib.Numerals.{add-one}
 use native.Mathlib.Omega.{arith}
 use lib.Bits.{bitOr}
@@ -10,8 +11,24 @@ use Rattle.finite.specs.Decide.{Tells, eq-or-ne}
 use Rattle.finite.specs.Search.{Some}
 use Rattle.finite.specs.Sum.{sum}
 use Rattle.checks.specs.Marks.{Marks}
-use Rattle.corners.specs.Sums.{sum-next}
+use Rattle.finite.specs.SumBelow.{sum-next}
 use Rattle.checks.proofs.Tell.{equal-tells}
+
+-- ---- bits that mark statements
+pub marks-le : {A : Type 0} {a : ℕ} → Marks a A → a ≤ 1
+marks-le (inl (e, h)) = omega arith
+marks-le (inr (e, h)) = omega arith
+
+-- a product marks that both hold
+pub marks-both : {A B : Type 0} {a b : ℕ} → Marks a A → Marks b B → Marks (a * b) (A × B)
+marks-both (inl (e, h)) (inl (f, g)) = inl (rw (e, f), (h, g))
+marks-both (inl (e, h)) (inr (f, g)) = inr (rw (e, f), λ (x, y). g y)
+marks-both {b = b} (inr (e, h)) m = inr (rw e (omega arith), λ (x, y). h x)
+
+-- a bit marks what holds just where the other does
+pub marks-same : {A B : Type 0} {a : ℕ} → Marks a A → (A → B) → (B → A) → Marks a B
+marks-same (inl (e, h)) to from = inl (e, to h)
+marks-same (inr (e, h)) to from = inr (e, λ b. h (from b))
 
 module _ (P : ℕ → Type 0) where
   -- before the first turn nothing has been looked at

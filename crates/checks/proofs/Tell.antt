@@ -1,7 +1,6 @@
 -- What a Bool tells: a comparison tells of any statement that holds where the comparison does.
 use mathlib.Core.Path.{_≡_, refl}
-use mathlib.Core.Bool.{Bool, true, false, not}
-use mathlib.Core.Logic.{_≢_}
+use mathlib.Core.Bool.{Bool, true, false}
 use Prim.Native.Nat.{ℕ}
 use borrow.Author.Tests.{eqb-true, eqb-false}
 use lib.Dec.{eqb}
@@ -14,10 +13,3 @@ module _ (A : Type 0) (a b : ℕ) where
       go : (t : Bool) → eqb a b ≡ t → Tells t A
       go true e = there (eqb-true a b e)
       go false e = λ h. eqb-false a b e (back h)
-
-  pub differ-tells : (a ≢ b → A) → (A → a ≢ b) → Tells (not (eqb a b)) A
-  differ-tells there back = go (eqb a b) refl
-    where
-      go : (t : Bool) → eqb a b ≡ t → Tells (not t) A
-      go true e = λ h. back h (eqb-true a b e)
-      go false e = there (eqb-false a b e)

@@ -1,4 +1,5 @@
--- The area of a room is the number of unit squares that it covers: the sum, over all squares as far as its right and its top, of 1 where it covers the square, else 0.
+-- The area of a room is the number of unit squares that it covers: the sum, over all squares as far as its right and its top, of 1 where
+-- it covers the square, else 0.
 use mathlib.Core.Path.{_≡_, ap, _∙_}
 use mathlib.Core.Logic.{inl, inr}
 use Prim.Native.Nat.{ℕ, zero, suc, _-_, _*_, _≤_, min}
@@ -7,7 +8,7 @@ use native.Mathlib.Omega.{arith}
 use Rattle.finite.specs.Decide.{le-or-lt}
 use Rattle.finite.specs.Sum.{sum, sum-same}
 use Rattle.drawing.specs.declared.Room.{Room}
-use Rattle.corners.specs.Sums.{sum-none, sum-next, sum-times}
+use Rattle.finite.specs.SumBelow.{sum-none, sum-next, sum-times}
 use Rattle.corners.specs.Squares.{between, between-le, between-one, between-some, square}
 
 abbrev pub areaOf : Room → ℕ
@@ -36,10 +37,12 @@ module _ (from to : ℕ) where
 -- ---- both ways
 module _ (room : Room) where
   -- the squares of a room, counted in a part of the plane that holds it
-  pub squares-are-area : (east north : ℕ) → room .right ≤ east → room .top ≤ north → sum (λ x. sum (square room x) 0 north) 0 east ≡ areaOf room
+  pub squares-are-area : (east north : ℕ) → room .right ≤ east → room .top ≤ north
+      → sum (λ x. sum (square room x) 0 north) 0 east ≡ areaOf room
   unfolding square
   squares-are-area east north h g =
-      sum-same (λ x. sum (square room x) 0 north) (λ x. height * column x) 0 east (λ x l m. sum-times (column x) row north ∙ ap (λ (z : ℕ). column x * z) rows ∙ mul-comm (column x) height)
+      sum-same (λ x. sum (square room x) 0 north) (λ x. height * column x) 0 east
+      (λ x l m. sum-times (column x) row north ∙ ap (λ (z : ℕ). column x * z) rows ∙ mul-comm (column x) height)
       ∙ sum-times height column east ∙ ap (λ (z : ℕ). height * z) columns ∙ mul-comm height width
     where
       column : ℕ → ℕ

@@ -1,5 +1,5 @@
--- Rooms that share no unit square fill the outline just where their areas add up to the outline's area, and they never add up to more: each unit square is
--- counted once for each room that covers it, so at most once, and not at all outside the outline.
+-- Rooms that share no unit square fill the outline just where their areas add up to the outline's area, and they never add up to more:
+-- each unit square is counted once for each room that covers it, so at most once, and not at all outside the outline.
 use mathlib.Core.Path.{_≡_, sym, _∙_}
 use mathlib.Core.Logic.{_≢_, inl, inr}
 use mathlib.Core.List.{List}
@@ -13,8 +13,8 @@ use Rattle.drawing.specs.declared.Room.{Room}
 use Rattle.rooms.specs.Outline.{Covers, roomIn, SomeRoom, outline}
 use Rattle.rooms.specs.Causes.{Overlap, Uncovered}
 use Rattle.rooms.specs.OutlineLaws.{rooms-within-outline}
-use Rattle.rooms.specs.DecideCauses.{dec-covers, dec-uncovered}
-use Rattle.corners.specs.Sums.{sum-swap, sum-ge, sum-some, sum-single}
+use Rattle.rooms.specs.DecideCauses.{dec-covers, dec-overlap, dec-uncovered}
+use Rattle.finite.specs.SumBelow.{sum-swap, sum-ge, sum-some, sum-single}
 use Rattle.corners.specs.Squares.{square, square-le, covers→square, square→covers}
 use Rattle.checks.specs.Area.{areaOf, squares-are-area}
 
@@ -28,11 +28,13 @@ module _ (rooms : List Room) (apart : ¬ Overlap rooms) where
 
   times→some : (x y : ℕ) → 0 < times x y → SomeRoom rooms (λ i. Covers (roomIn rooms i) x y)
   unfolding times
-  times→some x y h = let (i, l, g, s) = sum-some (λ i. square (roomIn rooms i) x y) (length rooms) h in (i, l, g, square→covers (roomIn rooms i) s)
+  times→some x y h =
+      let (i, l, g, s) = sum-some (λ i. square (roomIn rooms i) x y) (length rooms) h in (i, l, g, square→covers (roomIn rooms i) s)
 
   some→times : (x y : ℕ) → SomeRoom rooms (λ i. Covers (roomIn rooms i) x y) → 1 ≤ times x y
   unfolding times
-  some→times x y (i, l, h, c) = omega (arith, covers→square (roomIn rooms i) c, sum-ge (λ i. square (roomIn rooms i) x y) (length rooms) i h)
+  some→times x y (i, l, h, c) =
+      omega (arith, covers→square (roomIn rooms i) c, sum-ge (λ i. square (roomIn rooms i) x y) (length rooms) i h)
 
   times-at-most-once : (x y : ℕ) → times x y ≤ 1
   unfolding times
@@ -41,7 +43,12 @@ module _ (rooms : List Room) (apart : ¬ Overlap rooms) where
       one : (i j : ℕ) → i < length rooms → j < length rooms → 0 < square (roomIn rooms i) x y → 0 < square (roomIn rooms j) x y → i ≡ j
       one i j hi hj u v = elim (eq-or-ne i j) [
         | inl e ↦ e
-        | inr ne ↦ absurd (apart (i, zero-le, hi, (j, zero-le, hj, (ne, (x, y, square→covers (roomIn rooms i) u, square→covers (roomIn rooms j) v)))))
+        | inr ne ↦ absurd (apart (
+          i,
+          zero-le,
+          hi,
+          (j, zero-le, hj, (ne, (x, y, square→covers (roomIn rooms i) u, square→covers (roomIn rooms j) v))),
+        ))
       ]
 
   times-le-outline : (x y : ℕ) → times x y ≤ square (outline rooms) x y
@@ -75,24 +82,38 @@ module _ (rooms : List Room) (apart : ¬ Overlap rooms) where
   column-le : (x : ℕ) → sum (times x) 0 (outline rooms .top) ≤ sum (square (outline rooms) x) 0 (outline rooms .top)
   column-le x = sum-le (times x) (square (outline rooms) x) 0 (outline rooms .top) (λ y l h. times-le-outline x y)
 
+  areas-le-outline : areasOf rooms ≤ areaOf (outline rooms)
+  areas-le-outline = omega (
+    arith,
+    areas-by-square,
+    outline-by-square,
+    sum-le (λ x. sum (times x) 0 (outline rooms .top)) (λ x. sum (square (outline rooms) x) 0 (outline rooms .top)) 0 (outline rooms .right)
+        (λ x l h. column-le x),
+  )
+
   -- a square that is left over is counted for the outline only
   pub uncovered→areas-less : Uncovered rooms → areasOf rooms < areaOf (outline rooms)
   uncovered→areas-less (x, y, inside, none) = omega (
     arith,
     areas-by-square,
     outline-by-square,
-    sum-lt (λ x. sum (times x) 0 (outline rooms .top)) (λ x. sum (square (outline rooms) x) 0 (outline rooms .top)) 0 (outline rooms .right) (λ x l h. column-le x) x zero-le (inside .right) here,
+    sum-lt (λ x. sum (times x) 0 (outline rooms .top)) (λ x. sum (square (outline rooms) x) 0 (outline rooms .top)) 0 (outline rooms .right)
+        (λ x l h. column-le x) x zero-le (inside .right) here,
   )
     where
       missed : times x y < square (outline rooms) x y
-      missed = elim (le-or-lt (times x y) 0) [ inl h ↦ omega (arith, covers→square (outline rooms) inside) | inr h ↦ absurd (none (times→some x y h)) ]
+      missed = elim (le-or-lt (times x y) 0)
+          [ inl h ↦ omega (arith, covers→square (outline rooms) inside) | inr h ↦ absurd (none (times→some x y h)) ]
 
       here : sum (times x) 0 (outline rooms .top) < sum (square (outline rooms) x) 0 (outline rooms .top)
-      here = sum-lt (times x) (square (outline rooms) x) 0 (outline rooms .top) (λ y l h. times-le-outline x y) y zero-le (inside .top) missed
+      here =
+          sum-lt (times x) (square (outline rooms) x) 0 (outline rooms .top) (λ y l h. times-le-outline x y) y zero-le (inside .top) missed
 
   -- where none is, each is counted once for the rooms and once for the outline
   pub covered→areas-same : ¬ Uncovered rooms → areasOf rooms ≡ areaOf (outline rooms)
-  covered→areas-same covered = areas-by-square ∙ sum-same _ _ 0 (outline rooms .right) (λ x l h. sum-same (times x) (square (outline rooms) x) 0 (outline rooms .top) (λ y m g. same x y)) ∙ sym outline-by-square
+  covered→areas-same covered = areas-by-square
+      ∙ sum-same _ _ 0 (outline rooms .right)
+      (λ x l h. sum-same (times x) (square (outline rooms) x) 0 (outline rooms .top) (λ y m g. same x y)) ∙ sym outline-by-square
     where
       same : (x y : ℕ) → times x y ≡ square (outline rooms) x y
       same x y = elim (le-or-lt (square (outline rooms) x y) 0) [
@@ -105,3 +126,7 @@ module _ (rooms : List Room) (apart : ¬ Overlap rooms) where
 
   pub areas-differ→uncovered : areasOf rooms ≢ areaOf (outline rooms) → Uncovered rooms
   areas-differ→uncovered differ = stable (dec-uncovered rooms) (λ covered. differ (covered→areas-same covered))
+
+-- so rooms that add up to more do share one
+pub overfull→overlap : (rooms : List Room) → areaOf (outline rooms) < areasOf rooms → Overlap rooms
+overfull→overlap rooms more = stable (dec-overlap rooms) (λ apart. omega (arith, areas-le-outline rooms apart))

@@ -5,4 +5,5 @@ pub mod Area
 pub mod Verdict
 -- What they rest on
 pub mod Areas
+pub mod Filling
 pub mod Accepted

@@ -4,7 +4,7 @@ use Prim.Native.Nat.{ℕ}
 use Rattle.drawing.specs.declared.Room.{Room}
 use Rattle.rooms.specs.Causes.{RoomSize, Overlap, Uncovered, FourMeet, AcceptedRooms}
 use Rattle.rooms.specs.Plan.{Plan}
-use Rattle.corners.specs.Corners.{CornersPaired}
+use Rattle.corners.specs.Corners.{CornersPairedIn}
 use Rattle.checks.specs.declared.Verdict.{Verdict}
 use Rattle.checks.specs.declared.Verdict.the-variants as verdict
 
@@ -17,8 +17,8 @@ VerdictOf rooms verdict.Uncovered = (¬ RoomSize rooms) × (¬ Overlap rooms) ×
 VerdictOf rooms verdict.FourMeet = (¬ RoomSize rooms) × (¬ Overlap rooms) × (¬ Uncovered rooms) × FourMeet rooms
 
 -- the corners of an accepted list are paired
-abbrev pub PairedWhere : Verdict → (p : Plan) (there back : ℕ → ℕ) → Type 0
-PairedWhere verdict.Accepted p there back = CornersPaired p there back
+abbrev pub PairedWhere : Verdict → (p : Plan) (there back : List ℕ) → Type 0
+PairedWhere verdict.Accepted p there back = CornersPairedIn p there back
 PairedWhere verdict.RoomSize p there back = Unit
 PairedWhere verdict.Overlap p there back = Unit
 PairedWhere verdict.Uncovered p there back = Unit

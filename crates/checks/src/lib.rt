@@ -1,17 +1,17 @@
 // The causes 2 to 5 of a room list, decided on its rooms' corners: four lists of one length, each corner at the room's place.
 ghost use mathlib.Core.Path.{_≡_};
-ghost use Prim.Native.Nat.{_*_, _≤_, _<_};
-ghost use lib.ListN.{length, replicate};
+ghost use Prim.Native.Nat.{_+_, _*_, _≤_, _<_};
+ghost use lib.ListN.{length};
 ghost use Rattle.finite.specs.Decide.{Tells};
-ghost use Rattle.finite.specs.Sum.{sum};
 ghost use Rattle.rooms.specs.Causes.{RoomSize, ShareSquare, Overlap, Uncovered};
 ghost use Rattle.rooms.specs.Corners.{cornersAt, OneLength};
-ghost use Rattle.checks.specs.CornerLists.{roomsIn, Flat, SharesEarlier};
+ghost use Rattle.checks.specs.CornerLists.{Flat, SharesEarlier, areasIn};
 ghost use Rattle.checks.specs.Marks.{Marks};
 ghost use Rattle.checks.specs.Area.{areaOf};
+ghost use Rattle.checks.specs.Filling.{Fills};
 ghost use Rattle.checks.specs.Verdict.{VerdictOf, PairedWhere};
-ghost use Rattle.points.specs.Listed.{numberAt};
-ghost use Rattle.corners.specs.ListPlan.{listPlan};
+ghost use Rattle.points.specs.Paired.{Unpaired};
+ghost use Rattle.corners.specs.ListPlan.{roomsFrom, listPlan, outlineOf};
 use drawing::Room;
 
 // The first cause that a room list has in the order 2, 3, 4, 5, or that it has none of them.
@@ -52,11 +52,11 @@ fn no_size(room: Room) -> u16
     0
 }
 
-// Whether a room has no width or no height. No turn leaves the loop, and what is found is kept as a number of the corners' width: so the compiler looks at several
-// rooms at a time.
+// Whether a room has no width or no height. No turn leaves the loop, and what is found is kept as a number of the corners' width: so the
+// compiler looks at several rooms at a time.
 fn flat(left: &[u16], bottom: &[u16], right: &[u16], top: &[u16]) -> bool
     requires { ⌜ OneLength (now left) (now bottom) (now right) (now top) ⌝ }
-    ensures { λ r. ⌜ Tells r (RoomSize (roomsIn (now (left .entry)) (now (bottom .entry)) (now (right .entry)) (now (top .entry)))) ⌝ }
+    ensures { λ r. ⌜ Tells r (RoomSize (roomsFrom (now (left .entry)) (now (bottom .entry)) (now (right .entry)) (now (top .entry)))) ⌝ }
 {
     let mut found: u16 = 0;
     let mut i = 0;
@@ -69,26 +69,32 @@ fn flat(left: &[u16], bottom: &[u16], right: &[u16], top: &[u16]) -> bool
 
 // ---- cause 3
 
-// 1 where a unit square lies in both rooms, which have a column and a row in common then, else 0.
-fn share(first: Room, second: Room) -> u16
-    ensures { λ r. ⌜ Marks r (ShareSquare first second) ⌝ }
+// 1 where the first number is below the second, else 0.
+fn below(first: u16, second: u16) -> u16
+    ensures { λ r. ⌜ Marks r (first < second) ⌝ }
 {
-    let left = rooms::larger(first.left, second.left);
-    let right = rooms::smaller(first.right, second.right);
-    let bottom = rooms::larger(first.bottom, second.bottom);
-    let top = rooms::smaller(first.top, second.top);
-    if left < right {
-        if bottom < top {
-            return 1;
-        }
+    if first < second {
+        return 1;
     }
     0
+}
+
+// 1 where a unit square lies in both rooms, which are wide and tall, else 0: each starts before the other ends, both ways.
+fn share(first: Room, second: Room) -> u16
+    requires { ⌜ (first .left < first .right) × (first .bottom < first .top) ⌝ }
+    requires { ⌜ (second .left < second .right) × (second .bottom < second .top) ⌝ }
+    ensures { λ r. ⌜ Marks r (ShareSquare first second) ⌝ }
+{
+    let across = below(first.left, second.right) * below(second.left, first.right);
+    let up = below(first.bottom, second.top) * below(second.bottom, first.top);
+    across * up
 }
 
 // Whether room j shares a unit square with an earlier room, in a loop that no turn leaves, as above.
 fn shares_earlier(left: &[u16], bottom: &[u16], right: &[u16], top: &[u16], j: usize) -> bool
     requires { ⌜ OneLength (now left) (now bottom) (now right) (now top) ⌝ }
     requires { ⌜ j < length (now left) ⌝ }
+    requires { ⌜ ¬ RoomSize (roomsFrom (now left) (now bottom) (now right) (now top)) ⌝ }
     ensures { λ r. ⌜ Tells r (SharesEarlier (now (left .entry)) (now (bottom .entry)) (now (right .entry)) (now (top .entry)) j) ⌝ }
 {
     let room = room_at(left, bottom, right, top, j);
@@ -104,7 +110,8 @@ fn shares_earlier(left: &[u16], bottom: &[u16], right: &[u16], top: &[u16], j: u
 // Whether two rooms share a unit square.
 fn overlap(left: &[u16], bottom: &[u16], right: &[u16], top: &[u16]) -> bool
     requires { ⌜ OneLength (now left) (now bottom) (now right) (now top) ⌝ }
-    ensures { λ r. ⌜ Tells r (Overlap (roomsIn (now (left .entry)) (now (bottom .entry)) (now (right .entry)) (now (top .entry)))) ⌝ }
+    requires { ⌜ ¬ RoomSize (roomsFrom (now left) (now bottom) (now right) (now top)) ⌝ }
+    ensures { λ r. ⌜ Tells r (Overlap (roomsFrom (now (left .entry)) (now (bottom .entry)) (now (right .entry)) (now (top .entry)))) ⌝ }
 {
     let mut j = 0;
     while j < left.len() {
@@ -132,8 +139,8 @@ fn area(room: Room) -> u64
 fn areas(left: &[u16], bottom: &[u16], right: &[u16], top: &[u16]) -> u64
     requires { ⌜ OneLength (now left) (now bottom) (now right) (now top) ⌝ }
     requires { ⌜ length (now left) ≤ 255 ⌝ }
-    requires { ⌜ ¬ RoomSize (roomsIn (now left) (now bottom) (now right) (now top)) ⌝ }
-    ensures { λ r. ⌜ r ≡ sum (λ i. areaOf (cornersAt (now (left .entry)) (now (bottom .entry)) (now (right .entry)) (now (top .entry)) i)) 0 (length (now (left .entry))) ⌝ }
+    requires { ⌜ ¬ RoomSize (roomsFrom (now left) (now bottom) (now right) (now top)) ⌝ }
+    ensures { λ r. ⌜ r ≡ areasIn (now (left .entry)) (now (bottom .entry)) (now (right .entry)) (now (top .entry)) ⌝ }
 {
     let mut total: u64 = 0;
     let mut i = 0;
@@ -144,53 +151,71 @@ fn areas(left: &[u16], bottom: &[u16], right: &[u16], top: &[u16]) -> u64
     total
 }
 
-// Whether a unit square of the outline is in no room: rooms that share none fill the outline just where their areas add up to its own.
-fn uncovered(left: &[u16], bottom: &[u16], right: &[u16], top: &[u16]) -> bool
+// How the areas of the rooms, added up, stand to the outline's own.
+enum Filling {
+    Less,
+    Same,
+    More,
+}
+
+fn compare_areas(left: &[u16], bottom: &[u16], right: &[u16], top: &[u16], outline: Room) -> Filling
     requires { ⌜ OneLength (now left) (now bottom) (now right) (now top) ⌝ }
     requires { ⌜ (1 ≤ length (now left)) × (length (now left) ≤ 255) ⌝ }
-    requires { ⌜ ¬ RoomSize (roomsIn (now left) (now bottom) (now right) (now top)) ⌝ }
-    requires { ⌜ ¬ Overlap (roomsIn (now left) (now bottom) (now right) (now top)) ⌝ }
-    ensures { λ r. ⌜ Tells r (Uncovered (roomsIn (now (left .entry)) (now (bottom .entry)) (now (right .entry)) (now (top .entry)))) ⌝ }
+    requires { ⌜ ¬ RoomSize (roomsFrom (now left) (now bottom) (now right) (now top)) ⌝ }
+    requires { ⌜ outline ≡ outlineOf (listPlan (now left) (now bottom) (now right) (now top)) ⌝ }
+    ensures { λ r. ⌜ Fills r (roomsFrom (now (left .entry)) (now (bottom .entry)) (now (right .entry)) (now (top .entry))) ⌝ }
 {
-    let outline = Room {
-        left: rooms::lowest(left),
-        bottom: rooms::lowest(bottom),
-        right: rooms::highest(right),
-        top: rooms::highest(top),
-    };
-    areas(left, bottom, right, top) != area(outline)
+    let total = areas(left, bottom, right, top);
+    let whole = area(outline);
+    if total < whole {
+        return Filling::Less;
+    }
+    if whole < total {
+        return Filling::More;
+    }
+    Filling::Same
 }
 
 // ---- all four
 
-// The first of them that the list has, in the sheet's order. Where the corners are in pairs it has none, and the pairs are noted; that is so of every accepted list, and what a
-// floorplan is not to have is looked for only where they are not. A list that does not overlap, leaves no square over and is no floorplan can only have four rooms that meet.
+// The first of them that the list has, in the sheet's order. The areas come first: rooms that add up to more than the outline
+// overlap, and rooms that add up to less leave a square over. Of those that add up to as much, the corners are in pairs just where
+// the list has no cause, and then the pairs are noted. Else, as the outline is full, two rooms overlap or four meet.
 pub fn judge(
     left: &[u16],
     bottom: &[u16],
     right: &[u16],
     top: &[u16],
-    there: &mut [u16; 512],
-    back: &mut [u16; 512],
+    there: &mut [u16],
+    back: &mut [u16],
 ) -> Verdict
     requires { ⌜ OneLength (now left) (now bottom) (now right) (now top) ⌝ }
     requires { ⌜ (1 ≤ length (now left)) × (length (now left) ≤ 255) ⌝ }
-    requires { ⌜ (length (now there) ≡ 512) × (now back ≡ replicate 512 512) ⌝ }
-    ensures verdict { λ r. ⌜ VerdictOf (roomsIn (now (left .entry)) (now (bottom .entry)) (now (right .entry)) (now (top .entry))) r ⌝ }
-    ensures size { λ _. ⌜ (length (now (there .exit)) ≡ 512) × (length (now (back .exit)) ≡ 512) ⌝ }
-    ensures pairs { λ r. ⌜ PairedWhere r (listPlan (now (left .entry)) (now (bottom .entry)) (now (right .entry)) (now (top .entry))) (numberAt (now (there .exit))) (numberAt (now (back .exit))) ⌝ }
+    requires { ⌜ Unpaired (2 * length (now left) + 2) (now there) (now back) ⌝ }
+    ensures verdict { λ r. ⌜ VerdictOf (roomsFrom (now (left .entry)) (now (bottom .entry)) (now (right .entry)) (now (top .entry))) r ⌝ }
+    ensures pairs { λ r. ⌜ PairedWhere r (listPlan (now (left .entry)) (now (bottom .entry)) (now (right .entry)) (now (top .entry)))
+        (now (there .exit)) (now (back .exit)) ⌝ }
 {
     if flat(left, bottom, right, top) {
         return Verdict::RoomSize;
     }
-    if corners::pair_corners(left, bottom, right, top, there, back) {
-        return Verdict::Accepted;
+    let outline = corners::outline(left, bottom, right, top);
+    match compare_areas(left, bottom, right, top, outline) {
+        Filling::More => Verdict::Overlap,
+        Filling::Less => {
+            if overlap(left, bottom, right, top) {
+                return Verdict::Overlap;
+            }
+            Verdict::Uncovered
+        }
+        Filling::Same => {
+            if corners::pair_corners(left, bottom, right, top, outline, there, back) {
+                return Verdict::Accepted;
+            }
+            if overlap(left, bottom, right, top) {
+                return Verdict::Overlap;
+            }
+            Verdict::FourMeet
+        }
     }
-    if overlap(left, bottom, right, top) {
-        return Verdict::Overlap;
-    }
-    if uncovered(left, bottom, right, top) {
-        return Verdict::Uncovered;
-    }
-    Verdict::FourMeet
 }

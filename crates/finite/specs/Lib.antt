@@ -3,6 +3,7 @@ pub mod Decide
 pub mod Search
 pub mod First
 pub mod Sum
+pub mod SumBelow
 pub mod Count
 pub mod Table
 pub mod Fill

@@ -1,12 +1,10 @@
 // The C interface: the public calls as exported functions, and nothing else. A slice is a pointer and its length.
 ghost use mathlib.Core.Path.{_≡_};
 ghost use Prim.Native.Nat.{_≤_};
-ghost use lib.ListN.{length};
 ghost use Rattle.record.specs.Answer.{LabelsIn};
-ghost use Rattle.rooms.specs.LabelList.{recordOfRooms};
 ghost use Rattle.answers.specs.Answer.{slices, RecordIn};
 ghost use Rattle.questions.specs.Answer.{questionAnswer};
-ghost use Rattle.plans.specs.Answer.{roomsAnswer, labelsOfRooms, positionsOfRooms, written as roomsWritten};
+ghost use Rattle.plans.specs.Answer.{slices as roomSlices, RoomsIn};
 ghost use Rattle.nenturxo.specs.Code.{Coded, refusalCode, roomsCode, labelsCode, recordCode};
 ghost use Rattle.nenturxo.specs.Code.{relationNumber, relatedNumber, questionCode};
 ghost use Rattle.nenturxo.specs.Size.{AtMost97};
@@ -37,7 +35,8 @@ fn rooms_code(answer: RoomsAnswer) -> i32
     }
 }
 
-// Rooms in: the record's length, the record, and the label and the position of each room in list order from the front of the slices, or the refusal's number negated, and nothing written.
+// Rooms in: the record's length, the record, and the label and the position of each room in list order from the front of the slices,
+// or the refusal's number negated, and nothing written.
 #[no_mangle]
 pub extern "C" fn nenturxo_rooms_in(
     rooms: &[Room],
@@ -45,10 +44,9 @@ pub extern "C" fn nenturxo_rooms_in(
     labels: &mut [u8],
     positions: &mut [u8],
 ) -> i32
-    ensures answer { λ r. ⌜ r ≡ roomsCode (roomsAnswer (now (rooms .entry)) (length (now («record» .entry))) (length (now (labels .entry))) (length (now (positions .entry)))) ⌝ }
-    ensures bytes { λ r. ⌜ now («record» .exit) ≡ roomsWritten (roomsAnswer (now (rooms .entry)) (length (now («record» .entry))) (length (now (labels .entry))) (length (now (positions .entry)))) (recordOfRooms (now (rooms .entry))) (now («record» .entry)) ⌝ }
-    ensures each { λ r. ⌜ now (labels .exit) ≡ roomsWritten (roomsAnswer (now (rooms .entry)) (length (now («record» .entry))) (length (now (labels .entry))) (length (now (positions .entry)))) (labelsOfRooms (now (rooms .entry))) (now (labels .entry)) ⌝ }
-    ensures places { λ r. ⌜ now (positions .exit) ≡ roomsWritten (roomsAnswer (now (rooms .entry)) (length (now («record» .entry))) (length (now (labels .entry))) (length (now (positions .entry)))) (positionsOfRooms (now (rooms .entry))) (now (positions .entry)) ⌝ }
+    ensures { λ r. ⌜ Coded roomsCode r (λ answer. RoomsIn (now (rooms .entry))
+        (roomSlices (now («record» .entry)) (now (labels .entry)) (now (positions .entry))) answer
+        (roomSlices (now («record» .exit)) (now (labels .exit)) (now (positions .exit)))) ⌝ }
 {
     let answer = plans::rooms_in(rooms, record, labels, positions);
     rooms_code(answer)

@@ -1,5 +1,6 @@
--- Rooms one after the other along a line, as the code goes over them: of each room one side lies on the line, and it starts where the room before it ends.
--- The line is told by its coordinate, and `on`, `from` and `to` give, of each room, the side that may lie on it, where the room starts and where it ends.
+-- Rooms one after the other along a line, as the code goes over them: of each room one side lies on the line, and it starts where the
+-- room before it ends. The line is told by its coordinate, and `on`, `from` and `to` give, of each room, the side that may lie on it,
+-- where the room starts and where it ends.
 use mathlib.Core.Path.{_≡_}
 use mathlib.Core.Logic.{_⊎_}
 use Prim.Native.Nat.{ℕ, _<_, zero-le}
@@ -15,8 +16,9 @@ pub record End (n : ℕ) (on from to : ℕ → ℕ) (line point c : ℕ) : Type 
   pub reached : Reached n on from to line point c
   pub stop : ¬ Starts n on from line (to c)
 
--- Room c follows room b: it is the last one down the line of b's right side, from b's upper-right corner; or the last one to the left along the line of b's top.
--- That is the rule of positions. With bottom and top exchanged it is the rule of labels: from b's lower-right corner up, or to the left along the line of b's bottom.
+-- Room c follows room b: it is the last one down the line of b's right side, from b's upper-right corner; or the last one to the left
+-- along the line of b's top. That is the rule of positions. With bottom and top exchanged it is the rule of labels: from b's lower-right
+-- corner up, or to the left along the line of b's bottom.
 pub data Follows (n : ℕ) (left bottom right top : ℕ → ℕ) (b c : ℕ) : Type 0 where
   beside : End n left top bottom (right b) (top b) c → Follows n left bottom right top b c
   across : End n bottom right left (top b) (right b) c → Follows n left bottom right top b c

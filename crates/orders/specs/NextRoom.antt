@@ -1,5 +1,6 @@
--- The room that follows b by position, found along the line of b's right side: b is directly left of the last room c down that line from b's upper-right corner, and no room z stands between them. Were z
--- left of c, then the last step into c starts on the same line, at b or below b; were z below c, then the last step into c also leads to the lowest room left of the line, which is b or below b.
+-- The room that follows b by position, found along the line of b's right side: b is directly left of the last room c down that line from
+-- b's upper-right corner, and no room z stands between them. Were z left of c, then the last step into c starts on the same line, at b or
+-- below b; were z below c, then the last step into c also leads to the lowest room left of the line, which is b or below b.
 use mathlib.Core.Path.{_≡_, refl, sym, ap, _∙_, subst}
 use mathlib.Core.Logic.{_⊎_, inl, inr}
 use Prim.Native.Nat.{ℕ, zero, _-_, _≤_, _<_, min, max, zero-le}
@@ -26,14 +27,19 @@ module _ (p : Plan) (k : Floorplan p) where
     drawn : (y : ℕ) → bottom c ≤ y → y < point → UprightEdge p line y
 
   reached→drawn : {line point c : ℕ} → Reached count left top bottom line point c → DrawnDown line point c
-  reached→drawn (first {c = c} h e f) = record { under = omega arith; drawn = λ y lo hi. (c, zero-le, h, record { side = inl e; bottom = lo; top = omega arith }) }
+  reached→drawn (first {c = c} h e f) = record {
+    under = omega arith;
+    drawn = λ y lo hi. (c, zero-le, h, record { side = inl e; bottom = lo; top = omega arith });
+  }
   reached→drawn (further {c = c} {d = d} r h e f) = let s = reached→drawn r in record {
     under = omega (arith, s .under, k .fits c (reached→room r));
-    drawn = λ y lo hi. elim (le-or-lt (bottom c) y) [ inl g ↦ s .drawn y g hi | inr g ↦ (d, zero-le, h, record { side = inl e; bottom = lo; top = omega arith }) ];
+    drawn = λ y lo hi. elim (le-or-lt (bottom c) y)
+        [ inl g ↦ s .drawn y g hi | inr g ↦ (d, zero-le, h, record { side = inl e; bottom = lo; top = omega arith }) ];
   }
 
   -- of two rooms in one column, the one that starts under the other's top is the same room or below it
-  column→same-or-below : (w b x : ℕ) → w < count → b < count → left w ≤ x → x < right w → left b ≤ x → x < right b → bottom w < top b → (w ≡ b) ⊎ Below p w b
+  column→same-or-below : (w b x : ℕ) → w < count → b < count → left w ≤ x → x < right w → left b ≤ x → x < right b → bottom w < top b
+      → (w ≡ b) ⊎ Below p w b
   column→same-or-below w b x hw hb w-from w-to b-from b-to h = elim (eq-or-ne w b) [
     | inl e ↦ inl e
     | inr ne ↦ elim (row→left-or-right (swap p) (swap-floorplan k) w b x hw hb ne (omega arith) (omega arith)) [
@@ -51,10 +57,20 @@ module _ (p : Plan) (k : Floorplan p) where
       let fi = k .fits i hi in
       k .no-cross (right b) (top b) (omega (arith, o .top))
       (b, zero-le, hb, record { side = inr refl; bottom = omega arith; top = omega arith }) edge
-      (b, zero-le, hb, record { side = inr refl; bottom = omega arith; top = omega arith }) (c, zero-le, hc, record { side = inr f; bottom = omega arith; top = omega arith })
+      (b, zero-le, hb, record { side = inr refl; bottom = omega arith; top = omega arith }) (
+        c,
+        zero-le,
+        hc,
+        record {
+          side = inr f;
+          bottom = omega arith;
+          top = omega arith;
+        },
+      )
 
   -- and at the lower-left corner of a room c, where no room starts there
-  no-edge-below : (line c : ℕ) → c < count → west < line → left c ≡ line → ¬ Starts count left top line (bottom c) → zero < bottom c → ¬ UprightEdge p line (bottom c - 1)
+  no-edge-below : (line c : ℕ) → c < count → west < line → left c ≡ line → ¬ Starts count left top line (bottom c) → zero < bottom c
+      → ¬ UprightEdge p line (bottom c - 1)
   no-edge-below line c hc inside e stop some edge =
       let fc = k .fits c hc in
       let (i, l, hi, o) = edge in
@@ -100,11 +116,13 @@ module _ (p : Plan) (k : Floorplan p) where
           | inl g ↦ column→same-or-below w b (right b - 1) (d .a<) hb (omega arith) (omega arith) (omega arith) (omega arith) (omega arith)
           | inr g ↦
               let (a, l, ha, at) = reached→starts (end .reached) in
-              absurd (no-edge-above b a hb ha (at .0) (at .1) (subst (λ (x : ℕ). UprightEdge p x (top b)) on (d .line (top b) (omega arith) (omega arith))))
+              absurd (no-edge-above b a hb ha (at .0) (at .1)
+              (subst (λ (x : ℕ). UprightEdge p x (top b)) on (d .line (top b) (omega arith) (omega arith))))
         ]
 
     -- a flat line under c goes on under the room v left of c that starts at the same height
-    line-under : (v w : ℕ) → v < count → right v ≡ right b → bottom v ≡ bottom c → BelowStep p w c → (x : ℕ) → min (left w) (left v) ≤ x → x < max (right w) (right v) → FlatEdge p x (bottom c)
+    line-under : (v w : ℕ) → v < count → right v ≡ right b → bottom v ≡ bottom c → BelowStep p w c → (x : ℕ) → min (left w) (left v) ≤ x
+        → x < max (right w) (right v) → FlatEdge p x (bottom c)
     line-under v w hv r t d x lo hi =
         let fv = k .fits v hv in
         let fc = k .fits c hc in
@@ -131,12 +149,23 @@ module _ (p : Plan) (k : Floorplan p) where
         let u = owner p (right b) (bottom c - 1) in
         let (hv, iv) = owner-covers (tiles k) (right b - 1) (bottom c) (omega arith) in
         let (hu, iu) = owner-covers (tiles k) (right b) (bottom c - 1) (omega arith) in
-        let (r, q) = edge→sides-meet p (tiles k) v c (right b) (bottom c) hv hc (omega arith) iv (omega arith) (s .drawn (bottom c) (omega arith) (omega arith)) in
+        let (r, q) = edge→sides-meet p (tiles k) v c (right b) (bottom c) hv hc (omega arith) iv (omega arith)
+        (s .drawn (bottom c) (omega arith) (omega arith)) in
         let t : bottom v ≡ bottom c = elim (le-or-lt (bottom c) (bottom v)) [
           | inl g ↦ omega arith
-          | inr g ↦ absurd (omega (arith, iu, ap right (no-edge→one-room p (tiles k) v u (right b) (bottom c - 1) hv hu (omega arith) (omega arith) iu (no-edge-below (right b) c hc (omega arith) on (end .stop) (omega arith)))))
+          | inr g ↦ absurd (omega (
+            arith,
+            iu,
+            ap right (no-edge→one-room p (tiles k) v u (right b) (bottom c - 1) hv hu (omega arith) (omega arith) iu
+                (no-edge-below (right b) c hc (omega arith) on (end .stop) (omega arith))),
+          ))
         ] in
-        let under-v : BelowStep p w v = record { a< = d .a<; b< = hv; meet = meet ∙ sym t; line = λ x lo hi. subst (λ (y : ℕ). FlatEdge p x y) (sym t) (line-under v w hv r t d x lo hi) } in
+        let under-v : BelowStep p w v = record {
+          a< = d .a<;
+          b< = hv;
+          meet = meet ∙ sym t;
+          line = λ x lo hi. subst (λ (y : ℕ). FlatEdge p x y) (sym t) (line-under v w hv r t d x lo hi);
+        } in
         elim (column→same-or-below v b (right b - 1) hv hb (iv .left) (iv .right) (omega arith) (omega arith) (omega arith)) [
           | inl g ↦ subst (Below p w) g (one under-v)
           | inr g ↦ chain-trans (one under-v) g

@@ -1,5 +1,6 @@
--- The rule of the next room for the two orders of a floorplan. For positions, "left or below": the first room has its lower-left corner at the outline's, and next comes the room that follows. Over the
--- line of a room's top that is NextRoom with x and y swapped. For labels, "left or above", it is the same of the plan upside down.
+-- The rule of the next room for the two orders of a floorplan. For positions, "left or below": the first room has its lower-left corner
+-- at the outline's, and next comes the room that follows. Over the line of a room's top that is NextRoom with x and y swapped. For
+-- labels, "left or above", it is the same of the plan upside down.
 use mathlib.Core.Path.{_≡_, ap}
 use mathlib.Core.Logic.{_⊎_, inl, inr}
 use Prim.Native.Nat.{ℕ, _-_, _≤_, _<_, zero-le}
@@ -21,7 +22,8 @@ pub record Ordered (n : ℕ) (left bottom right top : ℕ → ℕ) (x y : ℕ) (
   pub next : (b c : ℕ) → b < n → Follows n left bottom right top b c → Successor R b c
   pub starts-or-last : (b : ℕ) → b < n → StartsAtCorner n left bottom right top b ⊎ ((j : ℕ) → ¬ R b j)
 
-pub ordered-map : {n : ℕ} {left bottom right top : ℕ → ℕ} {x y : ℕ} {R Q : ℕ → ℕ → Type 0} → ((a b : ℕ) → R a b → Q a b) → ((a b : ℕ) → Q a b → R a b) → Ordered n left bottom right top x y R → Ordered n left bottom right top x y Q
+pub ordered-map : {n : ℕ} {left bottom right top : ℕ → ℕ} {x y : ℕ} {R Q : ℕ → ℕ → Type 0} → ((a b : ℕ) → R a b → Q a b)
+    → ((a b : ℕ) → Q a b → R a b) → Ordered n left bottom right top x y R → Ordered n left bottom right top x y Q
 ordered-map to from o = record {
   some-first = o .some-first;
   first = λ a ha e f j q. o .first a ha e f j (from j a q);
@@ -35,7 +37,8 @@ abbrev pub LeftOrBelow : Plan → (a b : ℕ) → Type 0
 LeftOrBelow p a b = Left p a b ⊎ Below p a b
 
 -- the room beyond b's right side, at its upper end
-beyond-right : (p : Plan) → Floorplan p → (b : ℕ) → b < p .count → p .right b < p .east → Some (λ c. RoomCovers p c (p .right b) (p .top b - 1) × (p .left c ≡ p .right b)) 0 (p .count)
+beyond-right : (p : Plan) → Floorplan p → (b : ℕ) → b < p .count → p .right b < p .east
+    → Some (λ c. RoomCovers p c (p .right b) (p .top b - 1) × (p .left c ≡ p .right b)) 0 (p .count)
 beyond-right p k b hb h =
     let fb = k .fits b hb in
     let c = owner p (p .right b) (p .top b - 1) in
@@ -50,7 +53,9 @@ module _ (p : Plan) (k : Floorplan p) where
   open Plan p using (count, left, bottom, right, top, west, south, east, north)
 
   -- where the room beyond b's upper-right corner reaches higher than b, or there is none, a room starts on the line of b's top
-  starts-over : (b : ℕ) → b < count → top b < north → (east ≤ right b) ⊎ Some (λ c. RoomCovers p c (right b) (top b) × (left c ≡ right b)) 0 count → Starts count bottom right (top b) (right b)
+  starts-over : (b : ℕ) → b < count → top b < north
+      → (east ≤ right b) ⊎ Some (λ c. RoomCovers p c (right b) (top b) × (left c ≡ right b)) 0 count
+      → Starts count bottom right (top b) (right b)
   starts-over b hb h beyond =
       let fb = k .fits b hb in
       let (d, l, hd, s) = beyond-right (swap p) (swap-floorplan k) b hb h in
@@ -61,7 +66,8 @@ module _ (p : Plan) (k : Floorplan p) where
         | inl g ↦ omega arith
         | inr g ↦ elim beyond [
           | inl q ↦ omega arith
-          | inr q ↦ let (c, l, hc, t) = q in absurd (omega (arith, t .1, ap left (k .apart d c (right b) (top b) hd hc (omega arith) (t .0))))
+          | inr q ↦ let (c, l, hc, t) = q in
+              absurd (omega (arith, t .1, ap left (k .apart d c (right b) (top b) hd hc (omega arith) (t .0))))
         ]
       ] in
       (d, zero-le, hd, (e, r))
@@ -70,7 +76,8 @@ module _ (p : Plan) (k : Floorplan p) where
   starts-or-corner : (b : ℕ) → b < count → StartsAtCorner count left bottom right top b ⊎ ((right b ≡ east) × (top b ≡ north))
   starts-or-corner b hb = go (k .fits b hb) (le-or-lt east (right b)) (le-or-lt north (top b))
     where
-      go : Fits p b → (east ≤ right b) ⊎ (right b < east) → (north ≤ top b) ⊎ (top b < north) → StartsAtCorner count left bottom right top b ⊎ ((right b ≡ east) × (top b ≡ north))
+      go : Fits p b → (east ≤ right b) ⊎ (right b < east) → (north ≤ top b) ⊎ (top b < north)
+          → StartsAtCorner count left bottom right top b ⊎ ((right b ≡ east) × (top b ≡ north))
       go f (inl h) (inl g) = inr (omega arith, omega arith)
       go f (inl h) (inr g) = inl (inr (starts-over b hb g (inl h)))
       go f (inr h) g =
@@ -84,7 +91,8 @@ module _ (p : Plan) (k : Floorplan p) where
 
   follows→successor : (b c : ℕ) → b < count → Follows count left bottom right top b c → Successor (LeftOrBelow p) b c
   follows→successor b c hb (beside e) = end→successor p k b c hb e
-  follows→successor b c hb (across e) = successor-map (λ u v. other-way) (λ u v. other-way) (end→successor (swap p) (swap-floorplan k) b c hb e)
+  follows→successor b c hb (across e) =
+      successor-map (λ u v. other-way) (λ u v. other-way) (end→successor (swap p) (swap-floorplan k) b c hb e)
 
   pub position-order : Ordered count left bottom right top west south (LeftOrBelow p)
   position-order = record {
@@ -111,7 +119,8 @@ module _ (p : Plan) (k : Floorplan p) where
 abbrev pub LeftOrAbove : Plan → (a b : ℕ) → Type 0
 LeftOrAbove p a b = Left p a b ⊎ Below p b a
 
-reached-map : (f g : ℕ → ℕ) {n : ℕ} {on from to : ℕ → ℕ} {line point c : ℕ} → Reached n on from to line point c → Reached n (λ i. f (on i)) (λ i. g (from i)) (λ i. g (to i)) (f line) (g point) c
+reached-map : (f g : ℕ → ℕ) {n : ℕ} {on from to : ℕ → ℕ} {line point c : ℕ} → Reached n on from to line point c
+    → Reached n (λ i. f (on i)) (λ i. g (from i)) (λ i. g (to i)) (f line) (g point) c
 reached-map f g (first h a b) = first h (ap f a) (ap g b)
 reached-map f g (further r h a b) = further (reached-map f g r) h (ap f a) (ap g b)
 
@@ -121,7 +130,8 @@ module _ (p : Plan) (k : Floorplan p) where
   upside : Ordered count left (flip p .bottom) right (flip p .top) west 0 (LeftOrBelow (flip p))
   upside = position-order (flip p) (flip-floorplan p k)
 
-  flip-follows : (b c : ℕ) → b < count → Follows count left top right bottom b c → Follows count left (flip p .bottom) right (flip p .top) b c
+  flip-follows : (b c : ℕ) → b < count → Follows count left top right bottom b c
+      → Follows count left (flip p .bottom) right (flip p .top) b c
   flip-follows b c hb (beside e) = beside (record {
     reached = reached-map (λ z. z) (λ z. north - z) (e .reached);
     stop = λ (d, l, hd, q). e .stop (d, l, hd, (q .0, omega (arith, q .1, k .fits d hd, k .fits c (reached→room (e .reached)))));

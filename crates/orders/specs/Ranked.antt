@@ -1,4 +1,5 @@
--- Positions and labels of a room list in the form in which the code finds them: the first room has its corner at a given point and the rank 1, and the room that follows has the rank one more.
+-- Positions and labels of a room list in the form in which the code finds them: the first room has its corner at a given point and the
+-- rank 1, and the room that follows has the rank one more.
 use mathlib.Core.Path.{_≡_}
 use mathlib.Core.Logic.{_⊎_, inl, inr}
 use mathlib.Core.List.{List}
@@ -28,7 +29,8 @@ pub record Ranked (n : ℕ) (left bottom right top : ℕ → ℕ) (x y : ℕ) (r
   pub next : (b c : ℕ) → b < n → Follows n left bottom right top b c → ranks c ≡ suc (ranks b)
   pub starts : (b : ℕ) → b < n → ranks b < n → StartsAtCorner n left bottom right top b
 
-ordered→ranked : {n : ℕ} {left bottom right top : ℕ → ℕ} {x y : ℕ} {R : ℕ → ℕ → Type 0} (s : Strict n R) (ranks : ℕ → ℕ) → ((a : ℕ) → ranks a ≡ 1 + rank s a) → OneToN ranks n
+ordered→ranked : {n : ℕ} {left bottom right top : ℕ → ℕ} {x y : ℕ} {R : ℕ → ℕ → Type 0} (s : Strict n R) (ranks : ℕ → ℕ)
+    → ((a : ℕ) → ranks a ≡ 1 + rank s a) → OneToN ranks n
     → Ordered n left bottom right top x y R → Ranked n left bottom right top x y ranks
 ordered→ranked s ranks is one-to-n o = record {
   one-to-n = one-to-n;
@@ -56,8 +58,12 @@ module _ (rooms : List Room) (k : Floorplan (planOf rooms)) where
   from-label a b (inl r) = inl (left-of→left rooms r)
   from-label a b (inr r) = inr (below-of→below rooms (above-of→below-of rooms r))
 
-  pub positions-ranked : let p = planOf rooms in Ranked (length rooms) (p .left) (p .bottom) (p .right) (p .top) (p .west) (p .south) (positionOf rooms)
-  positions-ranked = ordered→ranked (strict (position-orders rooms k)) (positionOf rooms) (position-is-rank rooms k) (positions-1-to-n rooms k) (ordered-map to-position from-position (position-order (planOf rooms) k))
+  pub positions-ranked : let p =
+      planOf rooms in Ranked (length rooms) (p .left) (p .bottom) (p .right) (p .top) (p .west) (p .south) (positionOf rooms)
+  positions-ranked = ordered→ranked (strict (position-orders rooms k)) (positionOf rooms) (position-is-rank rooms k)
+      (positions-1-to-n rooms k) (ordered-map to-position from-position (position-order (planOf rooms) k))
 
-  pub labels-ranked : let p = planOf rooms in Ranked (length rooms) (p .left) (p .top) (p .right) (p .bottom) (p .west) (p .north) (labelOf rooms)
-  labels-ranked = ordered→ranked (strict (label-orders rooms k)) (labelOf rooms) (label-is-rank rooms k) (labels-1-to-n rooms k) (ordered-map to-label from-label (label-order (planOf rooms) k))
+  pub labels-ranked : let p =
+      planOf rooms in Ranked (length rooms) (p .left) (p .top) (p .right) (p .bottom) (p .west) (p .north) (labelOf rooms)
+  labels-ranked = ordered→ranked (strict (label-orders rooms k)) (labelOf rooms) (label-is-rank rooms k) (labels-1-to-n rooms k)
+      (ordered-map to-label from-label (label-order (planOf rooms) k))

@@ -11,7 +11,8 @@ pub record Successor (R : ℕ → ℕ → Type 0) (b c : ℕ) : Type 0 where
   pub after : R b c
   pub none-between : (z : ℕ) → R b z → R z c → ⊥
 
-pub successor-map : {R Q : ℕ → ℕ → Type 0} → ((a b : ℕ) → R a b → Q a b) → ((a b : ℕ) → Q a b → R a b) → {b c : ℕ} → Successor R b c → Successor Q b c
+pub successor-map : {R Q : ℕ → ℕ → Type 0} → ((a b : ℕ) → R a b → Q a b) → ((a b : ℕ) → Q a b → R a b) → {b c : ℕ} → Successor R b c
+    → Successor Q b c
 successor-map to from {b} {c} s = record { after = to b c (s .after); none-between = λ z u v. s .none-between z (from b z u) (from z c v) }
 
 module _ {n : ℕ} {R : ℕ → ℕ → Type 0} (s : Strict n R) where
@@ -28,7 +29,8 @@ module _ {n : ℕ} {R : ℕ → ℕ → Type 0} (s : Strict n R) where
       let (c, l, hc, e) = rank-onto s (n - 1) (omega arith) in
       elim (eq-or-ne a c) [
         | inl q ↦ omega (arith, ap (rank s) q)
-        | inr ne ↦ elim (s .total a c ha hc ne) [ inl r ↦ absurd (none c r) | inr r ↦ absurd (omega (arith, rank-lt s c a hc r, rank-below s a ha)) ]
+        | inr ne ↦ elim (s .total a c ha hc ne)
+            [ inl r ↦ absurd (none c r) | inr r ↦ absurd (omega (arith, rank-lt s c a hc r, rank-below s a ha)) ]
       ]
 
   pub next→rank-one-more : (b c : ℕ) → b < n → c < n → Successor R b c → rank s c ≡ suc (rank s b)
@@ -41,7 +43,8 @@ module _ {n : ℕ} {R : ℕ → ℕ → Type 0} (s : Strict n R) where
           | inr r ↦ absurd (omega (arith, rank-lt s c z hc r))
           | inl r ↦ elim (eq-or-ne b z) [
             | inl q ↦ absurd (omega (arith, ap (rank s) q))
-            | inr other ↦ elim (s .total b z hb hz other) [ inl u ↦ absurd (next .none-between z u r) | inr u ↦ absurd (omega (arith, rank-lt s z b hz u)) ]
+            | inr other ↦ elim (s .total b z hb hz other)
+                [ inl u ↦ absurd (next .none-between z u r) | inr u ↦ absurd (omega (arith, rank-lt s z b hz u)) ]
           ]
         ]
       ]

@@ -1,21 +1,17 @@
-// Label and position of each room of an accepted list, and its label list. Both orders are walked from the first room by links between rooms at their corners, which the pairs of all corners are.
+// Label and position of each room of an accepted list, and its label list. Both orders are walked from the first room by links between
+// rooms at their corners, which the pairs of all corners are.
 ghost use mathlib.Core.Path.{_≡_};
 ghost use mathlib.Core.List.{List};
-ghost use Prim.Native.Nat.{ℕ, _*_, _≤_, _<_};
+ghost use Prim.Native.Nat.{ℕ, _*_, _≤_};
 ghost use lib.ListN.{length, take};
+ghost use Rattle.finite.specs.Fill.{filled};
 ghost use Rattle.drawing.specs.declared.Room.{Room};
-ghost use Rattle.rooms.specs.Causes.{AcceptedRooms};
-ghost use Rattle.rooms.specs.Corners.{roomsOf, OneLength};
 ghost use Rattle.rooms.specs.LabelList.{labelList};
-ghost use Rattle.rooms.specs.Ranks.{OneToN};
-ghost use Rattle.points.specs.Listed.{numberAt};
-ghost use Rattle.corners.specs.Corners.{CornersPaired};
-ghost use Rattle.corners.specs.ListPlan.{listPlan};
-ghost use Rattle.orders.specs.InOrder.{InOrder, ByPosition, PositionsAt, LabelsAt, LabelsInOrder};
-ghost use Rattle.orders.specs.Joined.{Linked};
-ghost use Rattle.orders.specs.Ranked.{Ranked};
-ghost use Rattle.orders.specs.Sized.{Sized};
-ghost use Rattle.orders.specs.Turns.{turnOf, Walkable};
+ghost use Rattle.corners.specs.ListPlan.{roomsFrom};
+ghost use Rattle.orders.specs.InOrder.{InBothOrders, Ranking, Numbered, LabelsInOrder};
+ghost use Rattle.orders.specs.PairedPlan.{PairedPlan};
+ghost use Rattle.orders.specs.Turns.{LinksWithin, Turned};
+ghost use Rattle.orders.specs.Walks.{WalkBoth};
 
 // A number as an index.
 fn wide(number: u16) -> usize
@@ -32,12 +28,13 @@ fn wide_byte(byte: u8) -> usize
 
 // ---- the order
 
-// Where each link leads, and whether the walk stops there. From room c the walk goes on along a line at 2c, to the room under c or beside it, and at 2c + 1 it has come to the line's end, c
-// itself, which comes next; from there it goes on at c's upper-right corner. A link down to room d goes on at d where a room is under d, and a link aside where a room is beside d.
-fn turn(links: &[u16; 512], count: usize, turned: &mut [u16; 512])
-    requires { ⌜ (count ≤ 512) × ((j : ℕ) → j < count → numberAt (now links) j < 512) ⌝ ∗ ⌜ (length (now links) ≡ 512) × (length (now turned) ≡ 512) ⌝ }
-    ensures size { λ _. ⌜ length (now (turned .exit)) ≡ 512 ⌝ }
-    ensures each { λ _. ⌜ ((j : ℕ) → j < count → numberAt (now (turned .exit)) j ≡ turnOf (numberAt (now (links .entry))) j) ⌝ }
+// Where each link leads, and whether the walk stops there. From room c the walk goes on along a line at 2c, to the room under c or beside
+// it, and at 2c + 1 it has come to the line's end, c itself, which comes next; from there it goes on at c's upper-right corner. A link
+// down to room d goes on at d where a room is under d, and a link aside where a room is beside d.
+fn turn(links: &[u16], count: usize, turned: &mut [u16])
+    requires { ⌜ LinksWithin count (now links) ⌝ }
+    requires { ⌜ count ≤ length (now turned) ⌝ }
+    ensures { λ _. ⌜ Turned count (now (links .entry)) (now (turned .exit)) ⌝ }
 {
     let mut j = 0;
     while j < count {
@@ -48,68 +45,156 @@ fn turn(links: &[u16; 512], count: usize, turned: &mut [u16; 512])
     }
 }
 
-// The rooms by position, from the first one. With bottom and top exchanged: by label. The corners are not looked at; they say how far the walk has come.
+// The rooms by position, from the first one by the links `up`, and by label, from the first one by the links `down`. A step of the one walk
+// waits for a load, so the other goes beside it. The corners are not looked at; they say how far the walks have come.
 fn walk(
     left: &[u16],
     bottom: &[u16],
     right: &[u16],
     top: &[u16],
-    turned: &[u16; 512],
-    first: usize,
-    by: &mut [u8; 255],
+    up: &[u16],
+    down: &[u16],
+    first_up: usize,
+    first_down: usize,
+    by_position: &mut [u8],
+    by_label: &mut [u8],
 )
-    requires { ⌜ ((f : ℕ → ℕ) × Ranked (length (now left)) (numberAt (now left)) (numberAt (now bottom)) (numberAt (now right)) (numberAt (now top)) (numberAt (now left) first) (numberAt (now bottom) first) f) ⌝
-        ∗ ⌜ Sized (now left) (now bottom) (now right) (now top) ⌝ ∗ ⌜ (length (now left) ≤ 255) × (length (now by) ≡ 255) ⌝
-        ∗ ⌜ Walkable (length (now left)) (numberAt (now left)) (numberAt (now bottom)) (numberAt (now right)) (numberAt (now top)) first (numberAt (now turned)) ⌝ }
-    ensures size { λ _. ⌜ length (now (by .exit)) ≡ 255 ⌝ }
-    ensures order { λ _. ⌜ ((f : ℕ → ℕ)
-        → Ranked (length (now (left .entry))) (numberAt (now (left .entry))) (numberAt (now (bottom .entry))) (numberAt (now (right .entry))) (numberAt (now (top .entry))) (numberAt (now (left .entry)) first) (numberAt (now (bottom .entry)) first) f
-        → InOrder (length (now (left .entry))) f (numberAt (now (by .exit)))) ⌝ }
+    requires { ⌜ WalkBoth (now left) (now bottom) (now right) (now top) (now up) (now down) «first_up» «first_down» ⌝ }
+    requires { ⌜ (length (now left) ≤ length (now «by_position»)) × (length (now left) ≤ length (now «by_label»)) ⌝ }
+    ensures { λ _. ⌜ InBothOrders (roomsFrom (now (left .entry)) (now (bottom .entry)) (now (right .entry)) (now (top .entry)))
+        (length (now (left .entry))) (now («by_position» .exit)) (now («by_label» .exit)) ⌝ }
 {
     let n = left.len();
-    let mut at = 2 * first + 1;
+    let mut at = 2 * first_up + 1;
     let mut k = 0;
-    while k < n {
-        by[k] = (at / 2) as u8;
-        k += at % 2;
-        at = wide(turned[at]);
+    let mut other = 2 * first_down + 1;
+    let mut j = 0;
+    while k + j < 2 * n {
+        if k < n {
+            by_position[k] = (at / 2) as u8;
+            k += at % 2;
+            at = wide(up[at]);
+        }
+        if j < n {
+            by_label[j] = (other / 2) as u8;
+            j += other % 2;
+            other = wide(down[other]);
+        }
     }
 }
 
-// The rooms by position, of the links that the pairs of corners are, and of the pairs the other way. With bottom and top exchanged: by label.
-fn order(
+// The rooms by position and by label, of paired corners, in arrays for the turned links. The pairs lead upward from room to room the one
+// way and downward the other way, and the corners of the outline that the two orders start from are paired with those of their first rooms.
+fn walk_both(
     left: &[u16],
     bottom: &[u16],
     right: &[u16],
     top: &[u16],
-    links: &[u16; 512],
-    others: &[u16; 512],
-    by: &mut [u8; 255],
+    there: &[u16],
+    back: &[u16],
+    up: &mut [u16],
+    down: &mut [u16],
+    by_position: &mut [u8],
+    by_label: &mut [u8],
 )
-    requires { ⌜ ((x : ℕ) × (y : ℕ) × (f : ℕ → ℕ)
-        × Ranked (length (now left)) (numberAt (now left)) (numberAt (now bottom)) (numberAt (now right)) (numberAt (now top)) x y f
-        × Linked (length (now left)) (numberAt (now left)) (numberAt (now bottom)) (numberAt (now right)) (numberAt (now top)) x y (numberAt (now links)) (numberAt (now others))) ⌝
-        ∗ ⌜ Sized (now left) (now bottom) (now right) (now top) ⌝ ∗ ⌜ (length (now left) ≤ 255) × (length (now links) ≡ 512) × (length (now others) ≡ 512) × (length (now by) ≡ 255) ⌝ }
-    ensures size { λ _. ⌜ length (now (by .exit)) ≡ 255 ⌝ }
-    ensures order { λ _. ⌜ ((x y : ℕ) (f : ℕ → ℕ)
-        → Ranked (length (now (left .entry))) (numberAt (now (left .entry))) (numberAt (now (bottom .entry))) (numberAt (now (right .entry))) (numberAt (now (top .entry))) x y f
-        → Linked (length (now (left .entry))) (numberAt (now (left .entry))) (numberAt (now (bottom .entry))) (numberAt (now (right .entry))) (numberAt (now (top .entry))) x y (numberAt (now (links .entry))) (numberAt (now (others .entry)))
-        → InOrder (length (now (left .entry))) f (numberAt (now (by .exit)))) ⌝ }
+    requires { ⌜ PairedPlan (now left) (now bottom) (now right) (now top) (now there) (now back) ⌝ }
+    requires { ⌜ (2 * length (now left) ≤ length (now up)) × (2 * length (now left) ≤ length (now down)) ⌝ }
+    requires { ⌜ (length (now left) ≤ length (now «by_position»)) × (length (now left) ≤ length (now «by_label»)) ⌝ }
+    ensures { λ _. ⌜ InBothOrders (roomsFrom (now (left .entry)) (now (bottom .entry)) (now (right .entry)) (now (top .entry)))
+        (length (now (left .entry))) (now («by_position» .exit)) (now («by_label» .exit)) ⌝ }
 {
     let n = left.len();
-    let mut turned = [0u16; 512];
-    turn(links, 2 * n, &mut turned);
-    let first = wide(others[2 * n]) / 2;
-    walk(left, bottom, right, top, &turned, first, by);
+    turn(back, 2 * n, up);
+    turn(there, 2 * n, down);
+    let first_up = wide(there[2 * n]) / 2;
+    let first_down = wide(back[2 * n]) / 2;
+    walk(
+        left,
+        bottom,
+        right,
+        top,
+        up,
+        down,
+        first_up,
+        first_down,
+        by_position,
+        by_label,
+    );
+}
+
+// The same, with arrays for as many links as there are: short ones are soon cleared.
+fn both_orders(
+    left: &[u16],
+    bottom: &[u16],
+    right: &[u16],
+    top: &[u16],
+    there: &[u16],
+    back: &[u16],
+    by_position: &mut [u8],
+    by_label: &mut [u8],
+)
+    requires { ⌜ PairedPlan (now left) (now bottom) (now right) (now top) (now there) (now back) ⌝ }
+    requires { ⌜ (length (now left) ≤ length (now «by_position»)) × (length (now left) ≤ length (now «by_label»)) ⌝ }
+    ensures { λ _. ⌜ InBothOrders (roomsFrom (now (left .entry)) (now (bottom .entry)) (now (right .entry)) (now (top .entry)))
+        (length (now (left .entry))) (now («by_position» .exit)) (now («by_label» .exit)) ⌝ }
+{
+    if left.len() <= 15 {
+        let mut up = [0u16; 32];
+        let mut down = [0u16; 32];
+        walk_both(
+            left,
+            bottom,
+            right,
+            top,
+            there,
+            back,
+            &mut up,
+            &mut down,
+            by_position,
+            by_label,
+        );
+        return;
+    }
+    if left.len() <= 63 {
+        let mut up = [0u16; 128];
+        let mut down = [0u16; 128];
+        walk_both(
+            left,
+            bottom,
+            right,
+            top,
+            there,
+            back,
+            &mut up,
+            &mut down,
+            by_position,
+            by_label,
+        );
+        return;
+    }
+    let mut up = [0u16; 512];
+    let mut down = [0u16; 512];
+    walk_both(
+        left,
+        bottom,
+        right,
+        top,
+        there,
+        back,
+        &mut up,
+        &mut down,
+        by_position,
+        by_label,
+    );
 }
 
 // ---- positions and labels
 
 // The rank of each of the `n` rooms, at its place in the list, from the rooms in their order.
-fn rank_all(by: &[u8; 255], n: usize, ranks: &mut [u8; 255])
-    requires { ⌜ ((f : ℕ → ℕ) × OneToN f n × InOrder n f (numberAt (now by))) ⌝ ∗ ⌜ (n ≤ 255) × (length (now ranks) ≡ 255) ⌝ }
-    ensures size { λ _. ⌜ length (now (ranks .exit)) ≡ 255 ⌝ }
-    ensures each { λ _. ⌜ ((f : ℕ → ℕ) → OneToN f n → InOrder n f (numberAt (now (by .entry))) → (i : ℕ) → i < n → numberAt (now (ranks .exit)) i ≡ f i) ⌝ }
+fn rank_all(by: &[u8], n: usize, ranks: &mut [u8])
+    requires { ⌜ ((f : ℕ → ℕ) × Ranking n (now by) f) ⌝ }
+    requires { ⌜ (n ≤ 255) × (n ≤ length (now ranks)) ⌝ }
+    ensures { λ _. ⌜ ((f : ℕ → ℕ) → Ranking n (now (by .entry)) f → now (ranks .exit) ≡ filled f n (now (ranks .entry))) ⌝ }
 {
     let mut k = 0;
     while k < n {
@@ -119,56 +204,40 @@ fn rank_all(by: &[u8; 255], n: usize, ranks: &mut [u8; 255])
     }
 }
 
-// The rooms by position, and the position of each room at its place in the list.
-pub fn positions(
+// From the front of the slices the label and the position of each room, at its place in the list, and the rooms by position. `by_label` is
+// for the rooms by label.
+pub fn labels_and_positions(
     left: &[u16],
     bottom: &[u16],
     right: &[u16],
     top: &[u16],
-    there: &[u16; 512],
-    back: &[u16; 512],
-    by: &mut [u8; 255],
-    ranks: &mut [u8; 255],
+    there: &[u16],
+    back: &[u16],
+    by_position: &mut [u8],
+    by_label: &mut [u8],
+    labels: &mut [u8],
+    positions: &mut [u8],
 )
-    requires { ⌜ OneLength (now left) (now bottom) (now right) (now top) ⌝ ∗ ⌜ AcceptedRooms (roomsOf (now left) (now bottom) (now right) (now top) (length (now left))) ⌝
-        ∗ ⌜ CornersPaired (listPlan (now left) (now bottom) (now right) (now top)) (numberAt (now there)) (numberAt (now back)) ⌝
-        ∗ ⌜ (length (now there) ≡ 512) × (length (now back) ≡ 512) × (length (now by) ≡ 255) × (length (now ranks) ≡ 255) ⌝ }
-    ensures size { λ _. ⌜ (length (now (by .exit)) ≡ 255) × (length (now (ranks .exit)) ≡ 255) ⌝ }
-    ensures order { λ _. ⌜ ByPosition (roomsOf (now (left .entry)) (now (bottom .entry)) (now (right .entry)) (now (top .entry)) (length (now (left .entry)))) (length (now (left .entry))) (numberAt (now (by .exit))) ⌝ }
-    ensures each { λ _. ⌜ PositionsAt (roomsOf (now (left .entry)) (now (bottom .entry)) (now (right .entry)) (now (top .entry)) (length (now (left .entry)))) (length (now (left .entry))) (now (ranks .exit)) ⌝ }
+    requires { ⌜ PairedPlan (now left) (now bottom) (now right) (now top) (now there) (now back) ⌝ }
+    requires { ⌜ (length (now left) ≤ length (now «by_position»)) × (length (now left) ≤ length (now «by_label»)) ⌝ }
+    requires { ⌜ (length (now left) ≤ length (now labels)) × (length (now left) ≤ length (now positions)) ⌝ }
+    ensures { λ _. ⌜ Numbered (roomsFrom (now (left .entry)) (now (bottom .entry)) (now (right .entry)) (now (top .entry)))
+        (length (now (left .entry))) (now («by_position» .exit)) (now (labels .entry)) (now (labels .exit))
+        (now (positions .entry)) (now (positions .exit)) ⌝ }
 {
-    order(left, bottom, right, top, back, there, by);
-    rank_all(by, left.len(), ranks);
-}
-
-// The label of each room, at its place in the list: bottom and top exchanged, and the pairs the other way.
-pub fn labels(
-    left: &[u16],
-    bottom: &[u16],
-    right: &[u16],
-    top: &[u16],
-    there: &[u16; 512],
-    back: &[u16; 512],
-    ranks: &mut [u8; 255],
-)
-    requires { ⌜ OneLength (now left) (now bottom) (now right) (now top) ⌝ ∗ ⌜ AcceptedRooms (roomsOf (now left) (now bottom) (now right) (now top) (length (now left))) ⌝
-        ∗ ⌜ CornersPaired (listPlan (now left) (now bottom) (now right) (now top)) (numberAt (now there)) (numberAt (now back)) ⌝
-        ∗ ⌜ (length (now there) ≡ 512) × (length (now back) ≡ 512) × (length (now ranks) ≡ 255) ⌝ }
-    ensures size { λ _. ⌜ length (now (ranks .exit)) ≡ 255 ⌝ }
-    ensures each { λ _. ⌜ LabelsAt (roomsOf (now (left .entry)) (now (bottom .entry)) (now (right .entry)) (now (top .entry)) (length (now (left .entry)))) (length (now (left .entry))) (now (ranks .exit)) ⌝ }
-{
-    let mut by = [0u8; 255];
-    order(left, top, right, bottom, there, back, &mut by);
-    rank_all(&by, left.len(), ranks);
+    both_orders(left, bottom, right, top, there, back, by_position, by_label);
+    rank_all(by_label, left.len(), labels);
+    rank_all(by_position, left.len(), positions);
 }
 
 // ---- the label list
 
 // The labels by position, from the labels of the `n` rooms, which stand at the rooms' places, and the rooms by position.
-pub fn label_list(labels: &[u8; 255], by: &[u8; 255], n: usize, list: &mut [u8; 255])
-    requires { ⌜ ((rooms : List Room) × LabelsInOrder rooms n (now labels) (now by)) ⌝ ∗ ⌜ length (now list) ≡ 255 ⌝ }
-    ensures size { λ _. ⌜ length (now (list .exit)) ≡ 255 ⌝ }
-    ensures list { λ _. ⌜ ((rooms : List Room) → LabelsInOrder rooms n (now (labels .entry)) (now (by .entry)) → take n (now (list .exit)) ≡ labelList rooms) ⌝ }
+pub fn label_list(labels: &[u8], by: &[u8], n: usize, list: &mut [u8])
+    requires { ⌜ ((rooms : List Room) × LabelsInOrder rooms n (now labels) (now by)) ⌝ }
+    requires { ⌜ n ≤ length (now list) ⌝ }
+    ensures { λ _. ⌜ ((rooms : List Room) → LabelsInOrder rooms n (now (labels .entry)) (now (by .entry))
+        → take n (now (list .exit)) ≡ labelList rooms) ⌝ }
 {
     let mut k = 0;
     while k < n {

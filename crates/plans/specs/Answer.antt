@@ -1,7 +1,8 @@
--- What Rooms in answers, and what the output slices then hold. "Order: rooms 1, 2, 3, 4, 5, 15." "Rooms in: record, label and position of each room in list order, and the
--- record's length."
+-- What Rooms in answers, and what the output slices then hold. "Order: rooms 1, 2, 3, 4, 5, 15." "Rooms in: record, label and position of
+-- each room in list order, and the record's length."
 use mathlib.Core.List.{List, _++_}
 use mathlib.Core.Logic.{_⊎_, ite}
+use mathlib.Core.Path.{_≡_}
 use Prim.Native.Nat.{ℕ, _<_}
 use native.Mathlib.Decide.{decLt}
 use lib.ListN.{length, drop}
@@ -21,7 +22,8 @@ Short rooms bytes labels positions = (bytes < length (recordOfRooms rooms)) ⊎ 
 
 unfoldable pub dec-short : (rooms : List Room) (bytes labels positions : ℕ) → Dec (Short rooms bytes labels positions)
 unfolding dec-⊎ decLt
-dec-short rooms bytes labels positions = dec-⊎ (decLt bytes (length (recordOfRooms rooms))) (dec-⊎ (decLt labels (length rooms)) (decLt positions (length rooms)))
+dec-short rooms bytes labels positions =
+    dec-⊎ (decLt bytes (length (recordOfRooms rooms))) (dec-⊎ (decLt labels (length rooms)) (decLt positions (length rooms)))
 
 -- the answer for a room list and output slices of so many places
 abbrev pub roomsAnswer : List Room → (bytes labels positions : ℕ) → RoomsAnswer
@@ -45,3 +47,19 @@ positionsOfRooms rooms = table (positionOf rooms) (length rooms)
 abbrev pub written : RoomsAnswer → (result before : List ℕ) → List ℕ
 written (Wrote size) result before = result ++ drop (length result) before
 written (Refused refusal) result before = before
+
+-- the three output slices
+pub record Slices : Type 0 where
+  pub bytes : List ℕ
+  pub labels : List ℕ
+  pub positions : List ℕ
+
+abbrev pub slices : (bytes labels positions : List ℕ) → Slices
+slices bytes labels positions = record { bytes = bytes; labels = labels; positions = positions }
+
+-- what Rooms in answers for these rooms and output slices that held `before`, and what the slices hold then
+pub record RoomsIn (rooms : List Room) (before : Slices) (answer : RoomsAnswer) (after : Slices) : Type 0 where
+  pub answered : answer ≡ roomsAnswer rooms (length (before .bytes)) (length (before .labels)) (length (before .positions))
+  pub record-is : after .bytes ≡ written answer (recordOfRooms rooms) (before .bytes)
+  pub labels-are : after .labels ≡ written answer (labelsOfRooms rooms) (before .labels)
+  pub positions-are : after .positions ≡ written answer (positionsOfRooms rooms) (before .positions)

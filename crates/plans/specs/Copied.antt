@@ -1,4 +1,5 @@
--- Rooms copied into one array, corner by corner: of the room at place i, the left stands at i, the bottom at 255 + i, the right at 510 + i and the top at 765 + i.
+-- Rooms copied into one array, corner by corner: of the room at place i, the left stands at i, the bottom at 255 + i, the right at 510 +
+-- i and the top at 765 + i.
 use mathlib.Core.Bool.{cond}
 use mathlib.Core.List.{List}
 use Prim.Native.Nat.{ℕ, _+_}
@@ -17,7 +18,12 @@ put corners i room = cond (ltb i 255) (stored corners i room) corners
 
 -- the room at place i, and the first n rooms
 abbrev pub copiedAt : List ℕ → ℕ → Room
-copiedAt corners i = record { left = getD corners i 0; bottom = getD corners (255 + i) 0; right = getD corners (510 + i) 0; top = getD corners (765 + i) 0 }
+copiedAt corners i = record {
+  left = getD corners i 0;
+  bottom = getD corners (255 + i) 0;
+  right = getD corners (510 + i) 0;
+  top = getD corners (765 + i) 0;
+}
 
-abbrev pub roomsIn : List ℕ → ℕ → List Room
-roomsIn corners n = table (copiedAt corners) n
+abbrev pub copiedRooms : List ℕ → ℕ → List Room
+copiedRooms corners n = table (copiedAt corners) n

@@ -1,5 +1,5 @@
--- Demand 1 for room lists: "either its result or one of the numbered refusals, in the stated order". "A cause found gives its number, and no number
--- comes without its cause."
+-- Demand 1 for room lists: "either its result or one of the numbered refusals, in the stated order". "A cause found gives its number, and
+-- no number comes without its cause."
 use mathlib.Core.List.{List}
 use mathlib.Core.Logic.{ite, if-pos, if-neg}
 use mathlib.Core.Path.{_≡_, sym, _∙_}
@@ -20,10 +20,13 @@ pub data RoomsSays (rooms : List Room) (bytes labels positions : ℕ) : RoomsAns
   count : BadCount (length rooms) → RoomsSays rooms bytes labels positions (Refused refusal.Count)
   size : ¬ BadCount (length rooms) → RoomSize rooms → RoomsSays rooms bytes labels positions (Refused refusal.RoomSize)
   overlap : ¬ BadCount (length rooms) → ¬ RoomSize rooms → Overlap rooms → RoomsSays rooms bytes labels positions (Refused refusal.Overlap)
-  uncovered : ¬ BadCount (length rooms) → ¬ RoomSize rooms → ¬ Overlap rooms → Uncovered rooms → RoomsSays rooms bytes labels positions (Refused refusal.Uncovered)
-  four-meet : ¬ BadCount (length rooms) → ¬ RoomSize rooms → ¬ Overlap rooms → ¬ Uncovered rooms → FourMeet rooms → RoomsSays rooms bytes labels positions (Refused refusal.FourMeet)
+  uncovered : ¬ BadCount (length rooms) → ¬ RoomSize rooms → ¬ Overlap rooms → Uncovered rooms
+      → RoomsSays rooms bytes labels positions (Refused refusal.Uncovered)
+  four-meet : ¬ BadCount (length rooms) → ¬ RoomSize rooms → ¬ Overlap rooms → ¬ Uncovered rooms → FourMeet rooms
+      → RoomsSays rooms bytes labels positions (Refused refusal.FourMeet)
   short : AcceptedRooms rooms → Short rooms bytes labels positions → RoomsSays rooms bytes labels positions (Refused refusal.ShortOutput)
-  wrote : AcceptedRooms rooms → ¬ Short rooms bytes labels positions → RoomsSays rooms bytes labels positions (Wrote (length (recordOfRooms rooms)))
+  wrote : AcceptedRooms rooms → ¬ Short rooms bytes labels positions
+      → RoomsSays rooms bytes labels positions (Wrote (length (recordOfRooms rooms)))
 
 module _ (rooms : List Room) (capacity labels positions : ℕ) where
   abbrev after-causes : RoomsAnswer
@@ -31,12 +34,19 @@ module _ (rooms : List Room) (capacity labels positions : ℕ) where
 
   -- each answer has its cause
   pub demand1-rooms-cause : RoomsSays rooms capacity labels positions (roomsAnswer rooms capacity labels positions)
-  demand1-rooms-cause = go (dec-count (length rooms)) (dec-room-size rooms) (dec-overlap rooms) (dec-uncovered rooms) (dec-four-meet rooms) (dec-short rooms capacity labels positions)
+  demand1-rooms-cause = go (dec-count (length rooms)) (dec-room-size rooms) (dec-overlap rooms) (dec-uncovered rooms) (dec-four-meet rooms)
+      (dec-short rooms capacity labels positions)
     where
-      go : (a : Dec (BadCount (length rooms))) (b : Dec (RoomSize rooms)) (c : Dec (Overlap rooms)) (d : Dec (Uncovered rooms)) (e : Dec (FourMeet rooms))
-          (f : Dec (Short rooms capacity labels positions))
-          → RoomsSays rooms capacity labels positions (ite a (Refused refusal.Count) (ite b (Refused refusal.RoomSize) (ite c (Refused refusal.Overlap) (ite d (Refused refusal.Uncovered)
-          (ite e (Refused refusal.FourMeet) (ite f (Refused refusal.ShortOutput) (Wrote (length (recordOfRooms rooms)))))))))
+      go : (a : Dec (BadCount (length rooms))) (b : Dec (RoomSize rooms)) (c : Dec (Overlap rooms)) (d : Dec (Uncovered rooms))
+          (e : Dec (FourMeet rooms)) (f : Dec (Short rooms capacity labels positions))
+          → RoomsSays rooms capacity labels positions
+          (ite a (Refused refusal.Count)
+          (ite b (Refused refusal.RoomSize)
+          (ite c (Refused refusal.Overlap)
+          (ite d (Refused refusal.Uncovered)
+          (ite e (Refused refusal.FourMeet)
+          (ite f (Refused refusal.ShortOutput)
+          (Wrote (length (recordOfRooms rooms)))))))))
       go (yes a) b c d e f = count a
       go (no a) (yes b) c d e f = size a b
       go (no a) (no b) (yes c) d e f = overlap a b c
@@ -48,17 +58,22 @@ module _ (rooms : List Room) (capacity labels positions : ℕ) where
   -- past the causes of an accepted list
   accepted-answer : AcceptedRooms rooms → roomsAnswer rooms capacity labels positions ≡ after-causes
   accepted-answer k =
-      if-neg (dec-count (length rooms)) (k .count) _ _ ∙ if-neg (dec-room-size rooms) (k .size) _ _ ∙ if-neg (dec-overlap rooms) (k .overlap) _ _ ∙ if-neg (dec-uncovered rooms) (k .uncovered) _ _
+      if-neg (dec-count (length rooms)) (k .count) _ _ ∙ if-neg (dec-room-size rooms) (k .size) _ _
+      ∙ if-neg (dec-overlap rooms) (k .overlap) _ _ ∙ if-neg (dec-uncovered rooms) (k .uncovered) _ _
       ∙ if-neg (dec-four-meet rooms) (k .four-meet) _ _
 
   -- and an answer with its cause is the answer
-  pub demand1-rooms-answer : {answer : RoomsAnswer} → RoomsSays rooms capacity labels positions answer → answer ≡ roomsAnswer rooms capacity labels positions
+  pub demand1-rooms-answer : {answer : RoomsAnswer} → RoomsSays rooms capacity labels positions answer
+      → answer ≡ roomsAnswer rooms capacity labels positions
   demand1-rooms-answer (count a) = sym (if-pos (dec-count (length rooms)) a _ _)
   demand1-rooms-answer (size a b) = sym (if-neg (dec-count (length rooms)) a _ _ ∙ if-pos (dec-room-size rooms) b _ _)
-  demand1-rooms-answer (overlap a b c) = sym (if-neg (dec-count (length rooms)) a _ _ ∙ if-neg (dec-room-size rooms) b _ _ ∙ if-pos (dec-overlap rooms) c _ _)
+  demand1-rooms-answer (overlap a b c) =
+      sym (if-neg (dec-count (length rooms)) a _ _ ∙ if-neg (dec-room-size rooms) b _ _ ∙ if-pos (dec-overlap rooms) c _ _)
   demand1-rooms-answer (uncovered a b c d) =
-      sym (if-neg (dec-count (length rooms)) a _ _ ∙ if-neg (dec-room-size rooms) b _ _ ∙ if-neg (dec-overlap rooms) c _ _ ∙ if-pos (dec-uncovered rooms) d _ _)
+      sym (if-neg (dec-count (length rooms)) a _ _ ∙ if-neg (dec-room-size rooms) b _ _ ∙ if-neg (dec-overlap rooms) c _ _
+      ∙ if-pos (dec-uncovered rooms) d _ _)
   demand1-rooms-answer (four-meet a b c d e) =
-      sym (if-neg (dec-count (length rooms)) a _ _ ∙ if-neg (dec-room-size rooms) b _ _ ∙ if-neg (dec-overlap rooms) c _ _ ∙ if-neg (dec-uncovered rooms) d _ _ ∙ if-pos (dec-four-meet rooms) e _ _)
+      sym (if-neg (dec-count (length rooms)) a _ _ ∙ if-neg (dec-room-size rooms) b _ _ ∙ if-neg (dec-overlap rooms) c _ _
+      ∙ if-neg (dec-uncovered rooms) d _ _ ∙ if-pos (dec-four-meet rooms) e _ _)
   demand1-rooms-answer (short k s) = sym (accepted-answer k ∙ if-pos (dec-short rooms capacity labels positions) s _ _)
   demand1-rooms-answer (wrote k s) = sym (accepted-answer k ∙ if-neg (dec-short rooms capacity labels positions) s _ _)

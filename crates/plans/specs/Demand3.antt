@@ -1,6 +1,7 @@
--- Demand 3 of the calls, from what Rooms in and Record in state alone: "Any two accepted room lists, handed in with long enough output slices, get the same record, byte for byte, exactly
--- when the two floorplans are equivalent. The reading of any bytes at all, handed in as a record with long enough output slices, is accepted exactly when they are the record of some accepted
--- room list; any other bytes are refused whatever the slices."
+-- Demand 3 of the calls, from what Rooms in and Record in state alone: "Any two accepted room lists, handed in with long enough output
+-- slices, get the same record, byte for byte, exactly when the two floorplans are equivalent. The reading of any bytes at all, handed in
+-- as a record with long enough output slices, is accepted exactly when they are the record of some accepted room list; any other bytes
+-- are refused whatever the slices."
 use mathlib.Core.List.{List, _++_}
 use mathlib.Core.Logic.{_↔_, _⊎_, inl, inr}
 use mathlib.Core.Path.{_≡_, refl, sym, ap, subst, _∙_}
@@ -22,7 +23,7 @@ use Rattle.answers.specs.Answer as answers
 use Rattle.answers.specs.Demand1.{refused-record, written as read-written, demand1-record-answer}
 use Rattle.answers.specs.declared.RecordAnswer.{RecordAnswer}
 use Rattle.answers.specs.declared.RecordAnswer.the-variants as recordIn
-use Rattle.plans.specs.Answer.{Short, roomsAnswer, written}
+use Rattle.plans.specs.Answer.{Short, roomsAnswer, Slices, RoomsIn}
 use Rattle.plans.specs.Demand1.{RoomsSays, count, size, overlap, uncovered, four-meet, short, wrote, demand1-rooms-cause, demand1-rooms-answer}
 use Rattle.plans.specs.declared.RoomsAnswer.{RoomsAnswer}
 use Rattle.plans.specs.declared.RoomsAnswer.the-variants.{Wrote, Refused}
@@ -32,7 +33,8 @@ abbrev Accepts : List Room → RoomsAnswer → Type 0
 Accepts rooms (Wrote n) = AcceptedRooms rooms × (n ≡ length (recordOfRooms rooms))
 Accepts rooms (Refused refusal) = Unit
 
-says-accepts : (rooms : List Room) {capacity labels positions : ℕ} {answer : RoomsAnswer} → RoomsSays rooms capacity labels positions answer → Accepts rooms answer
+says-accepts : (rooms : List Room) {capacity labels positions : ℕ} {answer : RoomsAnswer} → RoomsSays rooms capacity labels positions answer
+    → Accepts rooms answer
 says-accepts rooms (count a) = tt
 says-accepts rooms (size a b) = tt
 says-accepts rooms (overlap a b c) = tt
@@ -41,34 +43,43 @@ says-accepts rooms (four-meet a b c d e) = tt
 says-accepts rooms (short k s) = tt
 says-accepts rooms (wrote k s) = (k, refl)
 
-wrote-accepts : (rooms : List Room) (capacity labels positions n : ℕ) → roomsAnswer rooms capacity labels positions ≡ Wrote n → AcceptedRooms rooms × (n ≡ length (recordOfRooms rooms))
-wrote-accepts rooms capacity labels positions n e = subst (Accepts rooms) e (says-accepts rooms (demand1-rooms-cause rooms capacity labels positions))
+wrote-accepts : (rooms : List Room) (capacity labels positions n : ℕ) → roomsAnswer rooms capacity labels positions ≡ Wrote n
+    → AcceptedRooms rooms × (n ≡ length (recordOfRooms rooms))
+wrote-accepts rooms capacity labels positions n e =
+    subst (Accepts rooms) e (says-accepts rooms (demand1-rooms-cause rooms capacity labels positions))
 
--- the bytes at the front of the record slice after the call, as many as the length returned
-abbrev pub bytesWritten : (n : ℕ) → List Room → (before : List ℕ) → List ℕ
-bytesWritten n rooms before = take n (written (Wrote n) (recordOfRooms rooms) before)
+-- ---- what the call leaves
+-- the bytes at the front of the record slice, as many as the length returned
+abbrev pub bytesLeft : (n : ℕ) → (after : Slices) → List ℕ
+bytesLeft n after = take n (after .bytes)
 
-written-record : (rooms : List Room) (before : List ℕ) (n : ℕ) → n ≡ length (recordOfRooms rooms) → bytesWritten n rooms before ≡ recordOfRooms rooms
-written-record rooms before n e = ap (λ (m : ℕ). take m (recordOfRooms rooms ++ drop (length (recordOfRooms rooms)) before)) e ∙ take-append-seam (recordOfRooms rooms) _
+module _ {rooms : List Room} {before after : Slices} {n : ℕ} (did : RoomsIn rooms before (Wrote n) after) where
+  accepts : AcceptedRooms rooms × (n ≡ length (recordOfRooms rooms))
+  accepts = wrote-accepts rooms (length (before .bytes)) (length (before .labels)) (length (before .positions)) n (sym (did .answered))
+
+  bytes-are-record : bytesLeft n after ≡ recordOfRooms rooms
+  bytes-are-record =
+      ap (take n) (did .record-is)
+      ∙ ap (λ (m : ℕ). take m (recordOfRooms rooms ++ drop (length (recordOfRooms rooms)) (before .bytes))) (accepts .1)
+      ∙ take-append-seam (recordOfRooms rooms) _
 
 -- "get the same record, byte for byte, exactly when the two floorplans are equivalent"
-pub demand3-same-bytes-iff-equivalent : (rooms others : List Room) (capacity labels positions other-capacity other-labels other-positions n m : ℕ) (before other-before : List ℕ)
-    → roomsAnswer rooms capacity labels positions ≡ Wrote n → roomsAnswer others other-capacity other-labels other-positions ≡ Wrote m
-    → (bytesWritten n rooms before ≡ bytesWritten m others other-before) ↔ Equivalent rooms others
-demand3-same-bytes-iff-equivalent rooms others capacity labels positions other-capacity other-labels other-positions n m before other-before e d =
-    let k = wrote-accepts rooms capacity labels positions n e in
-    let l = wrote-accepts others other-capacity other-labels other-positions m d in
-    let one = written-record rooms before n (k .1) in
-    let other = written-record others other-before m (l .1) in
-    let (to, from) = demand3-same-record-iff-equivalent rooms others (k .0) (l .0) in
-    (λ same. to (sym one ∙ same ∙ other), λ q. one ∙ from q ∙ sym other)
+pub demand3-same-bytes-iff-equivalent : (rooms others : List Room) (before after other-before other-after : Slices) (n m : ℕ)
+    → RoomsIn rooms before (Wrote n) after → RoomsIn others other-before (Wrote m) other-after
+    → (bytesLeft n after ≡ bytesLeft m other-after) ↔ Equivalent rooms others
+demand3-same-bytes-iff-equivalent rooms others before after other-before other-after n m did other =
+    let (to, from) = demand3-same-record-iff-equivalent rooms others (accepts did .0) (accepts other .0) in (
+      λ same. to (sym (bytes-are-record did) ∙ same ∙ bytes-are-record other),
+      λ q. bytes-are-record did ∙ from q ∙ sym (bytes-are-record other),
+    )
 
 -- ---- the reading of any bytes
 -- the bytes are the record that Rooms in writes for some room list of 16-bit corners, given long enough output slices
 pub record WrittenFor (bytes : List ℕ) : Type 0 where
   pub rooms : List Room
   pub sixteen-bits : SixteenBits rooms
-  pub answered : (capacity labels positions : ℕ) → ¬ Short rooms capacity labels positions → roomsAnswer rooms capacity labels positions ≡ Wrote (length bytes)
+  pub answered : (capacity labels positions : ℕ) → ¬ Short rooms capacity labels positions
+      → roomsAnswer rooms capacity labels positions ≡ Wrote (length bytes)
   pub bytes-are : recordOfRooms rooms ≡ bytes
 
 readable→written : (bytes : List ℕ) → Bytes bytes → Readable bytes → WrittenFor bytes
@@ -77,7 +88,8 @@ readable→written bytes all readable =
     record {
       rooms = rooms;
       sixteen-bits = sixteen;
-      answered = λ capacity labels positions long. sym (demand1-rooms-answer rooms capacity labels positions (wrote accepted long)) ∙ ap (λ (r : List ℕ). Wrote (length r)) e;
+      answered = λ capacity labels positions long. sym (demand1-rooms-answer rooms capacity labels positions (wrote accepted long))
+          ∙ ap (λ (r : List ℕ). Wrote (length r)) e;
       bytes-are = e;
     }
 
@@ -94,7 +106,8 @@ written→readable bytes all w =
     long n m (inr (inr h)) = omega arith
 
 -- "is accepted exactly when they are the record of some accepted room list"
-pub demand3-read-iff-written : (bytes : List ℕ) → Bytes bytes → (labels left bottom right top : ℕ) → ¬ answers.Short (kindOf bytes) labels left bottom right top
+pub demand3-read-iff-written : (bytes : List ℕ) → Bytes bytes → (labels left bottom right top : ℕ)
+    → ¬ answers.Short (kindOf bytes) labels left bottom right top
     → (answers.recordAnswer bytes labels left bottom right top ≡ recordIn.Read (kindOf bytes)) ↔ WrittenFor bytes
 demand3-read-iff-written bytes all labels left bottom right top long = (
   λ e. readable→written bytes all (read-readable bytes (sorted bytes) e),
@@ -105,15 +118,20 @@ demand3-read-iff-written bytes all labels left bottom right top long = (
     Is-read (recordIn.Read n) = Unit
     Is-read (recordIn.Refused refusal) = ⊥
 
-    read-readable : (bytes : List ℕ) → Sorted bytes → answers.recordAnswer bytes labels left bottom right top ≡ recordIn.Read (kindOf bytes) → Readable bytes
+    read-readable : (bytes : List ℕ) → Sorted bytes → answers.recordAnswer bytes labels left bottom right top ≡ recordIn.Read (kindOf bytes)
+        → Readable bytes
     read-readable bytes (read all) e = all
-    read-readable bytes (refused cause) e = absurd (subst Is-read (sym (demand1-record-answer bytes labels left bottom right top (refused-record cause) ∙ e)) tt)
+    read-readable bytes (refused cause) e =
+        absurd (subst Is-read (sym (demand1-record-answer bytes labels left bottom right top (refused-record cause) ∙ e)) tt)
 
 -- "any other bytes are refused whatever the slices", and always with the same number
 pub demand3-others-refused : (bytes : List ℕ) → Bytes bytes → ¬ WrittenFor bytes
-    → (refusal : Refusal) × ((labels left bottom right top : ℕ) → answers.recordAnswer bytes labels left bottom right top ≡ recordIn.Refused refusal)
+    → (refusal : Refusal) × ((labels left bottom right top : ℕ)
+    → answers.recordAnswer bytes labels left bottom right top ≡ recordIn.Refused refusal)
 demand3-others-refused bytes all none = go (sorted bytes)
   where
-    go : Sorted bytes → (refusal : Refusal) × ((labels left bottom right top : ℕ) → answers.recordAnswer bytes labels left bottom right top ≡ recordIn.Refused refusal)
-    go (refused {refusal} cause) = (refusal, λ labels left bottom right top. sym (demand1-record-answer bytes labels left bottom right top (refused-record cause)))
+    go : Sorted bytes → (refusal : Refusal)
+        × ((labels left bottom right top : ℕ) → answers.recordAnswer bytes labels left bottom right top ≡ recordIn.Refused refusal)
+    go (refused {refusal} cause) =
+        (refusal, λ labels left bottom right top. sym (demand1-record-answer bytes labels left bottom right top (refused-record cause)))
     go (read readable) = absurd (none (readable→written bytes all readable))

@@ -1,16 +1,13 @@
-// Rooms in: a room list becomes its record, and the label and the position of each room; or it is refused with 1, 2, 3, 4, 5 or 15, in this order.
+// Rooms in: a room list becomes its record, and the label and the position of each room; or it is refused with 1, 2, 3, 4, 5 or 15, in
+// this order.
 ghost use mathlib.Core.Path.{_≡_};
-ghost use Prim.Native.Nat.{_≤_};
-ghost use lib.ListN.{length, getD};
-ghost use Rattle.finite.specs.Fill.{filled};
-ghost use Rattle.rooms.specs.Causes.{AcceptedRooms};
-ghost use Rattle.rooms.specs.LabelList.{recordOfRooms};
-ghost use Rattle.rooms.specs.Corners.{roomsOf, OneLength};
-ghost use Rattle.points.specs.Listed.{numberAt};
-ghost use Rattle.corners.specs.Corners.{CornersPaired};
-ghost use Rattle.corners.specs.ListPlan.{listPlan};
-ghost use Rattle.plans.specs.Answer.{roomsAnswer, labelsOfRooms, positionsOfRooms, written};
-ghost use Rattle.plans.specs.Copied.{put, roomsIn};
+ghost use Prim.Native.Nat.{_+_, _*_, _≤_};
+ghost use lib.ListN.{length};
+ghost use Rattle.points.specs.Paired.{Unpaired};
+ghost use Rattle.corners.specs.ListPlan.{roomsFrom};
+ghost use Rattle.orders.specs.PairedPlan.{PairedPlan};
+ghost use Rattle.plans.specs.Answer.{slices, RoomsIn};
+ghost use Rattle.plans.specs.Copied.{put, copiedRooms};
 use checks::Verdict;
 use drawing::Room;
 use record::LabelsAnswer;
@@ -22,118 +19,62 @@ pub enum RoomsAnswer {
     Refused(Refusal),
 }
 
-// Writes the first `n` numbers from the front of a slice, which has the room, and leaves the rest of it.
-fn put_front(numbers: &[u8; 255], n: usize, slice: &mut [u8])
-    requires { ⌜ (n ≤ 255) × (n ≤ length (now slice)) ⌝ }
-    ensures { λ _. ⌜ now (slice .exit) ≡ filled (λ i. getD (now (numbers .entry)) i 0) n (now (slice .entry)) ⌝ }
-{
-    let mut i = 0;
-    while i < n {
-        slice[i] = numbers[i];
-        i += 1;
-    }
-}
-
-// The record of an accepted room list, whose corners are paired, and the label and the position of each room; or 15, and the slices as they were. Its label list is Baxter, so that Labels in can only find the
-// record slice too short.
+// The record of an accepted room list, whose corners are paired, and the label and the position of each room; or 15, and the slices as
+// they were. Once all three are long enough nothing can be refused any more, since the label list of an accepted list is Baxter: so labels
+// and positions are put where they belong at once, and Labels in writes the record. `by` is for the rooms by position, and `list` for the
+// rooms by label and then for the label list.
 fn write(
     left: &[u16],
     bottom: &[u16],
     right: &[u16],
     top: &[u16],
-    there: &[u16; 512],
-    back: &[u16; 512],
+    there: &[u16],
+    back: &[u16],
+    by: &mut [u8],
+    list: &mut [u8],
     record: &mut [u8],
     labels: &mut [u8],
     positions: &mut [u8],
 ) -> RoomsAnswer
-    requires { ⌜ OneLength (now left) (now bottom) (now right) (now top) ⌝ ∗ ⌜ AcceptedRooms (roomsOf (now left) (now bottom) (now right) (now top) (length (now left))) ⌝
-        ∗ ⌜ CornersPaired (listPlan (now left) (now bottom) (now right) (now top)) (numberAt (now there)) (numberAt (now back)) ⌝ ∗ ⌜ (length (now there) ≡ 512) × (length (now back) ≡ 512) ⌝ }
-    ensures answer { λ r. ⌜ r ≡ roomsAnswer (roomsOf (now (left .entry)) (now (bottom .entry)) (now (right .entry)) (now (top .entry)) (length (now (left .entry)))) (length (now («record» .entry))) (length (now (labels .entry))) (length (now (positions .entry))) ⌝ }
-    ensures bytes { λ r. ⌜ now («record» .exit) ≡ written r (recordOfRooms (roomsOf (now (left .entry)) (now (bottom .entry)) (now (right .entry)) (now (top .entry)) (length (now (left .entry))))) (now («record» .entry)) ⌝ }
-    ensures each { λ r. ⌜ now (labels .exit) ≡ written r (labelsOfRooms (roomsOf (now (left .entry)) (now (bottom .entry)) (now (right .entry)) (now (top .entry)) (length (now (left .entry))))) (now (labels .entry)) ⌝ }
-    ensures places { λ r. ⌜ now (positions .exit) ≡ written r (positionsOfRooms (roomsOf (now (left .entry)) (now (bottom .entry)) (now (right .entry)) (now (top .entry)) (length (now (left .entry))))) (now (positions .entry)) ⌝ }
+    requires { ⌜ PairedPlan (now left) (now bottom) (now right) (now top) (now there) (now back) ⌝ }
+    requires { ⌜ (length (now left) ≤ length (now by)) × (length (now left) ≤ length (now list)) ⌝ }
+    ensures { λ r. ⌜ RoomsIn (roomsFrom (now (left .entry)) (now (bottom .entry)) (now (right .entry)) (now (top .entry)))
+        (slices (now («record» .entry)) (now (labels .entry)) (now (positions .entry))) r
+        (slices (now («record» .exit)) (now (labels .exit)) (now (positions .exit))) ⌝ }
 {
     let n = left.len();
+    if record.len() < 1 + (3 * n + 4) / 8 {
+        return RoomsAnswer::Refused(Refusal::ShortOutput);
+    }
     if labels.len() < n {
         return RoomsAnswer::Refused(Refusal::ShortOutput);
     }
     if positions.len() < n {
         return RoomsAnswer::Refused(Refusal::ShortOutput);
     }
-    let mut label_of = [0u8; 255];
-    let mut position_of = [0u8; 255];
-    let mut by_position = [0u8; 255];
-    let mut list = [0u8; 255];
-    orders::positions(
+    orders::labels_and_positions(
         left,
         bottom,
         right,
         top,
         there,
         back,
-        &mut by_position,
-        &mut position_of,
+        by,
+        list,
+        labels,
+        positions,
     );
-    orders::labels(left, bottom, right, top, there, back, &mut label_of);
-    orders::label_list(&label_of, &by_position, n, &mut list);
+    orders::label_list(labels, by, n, list);
     match labels::labels_in(&list[..n], record) {
+        LabelsAnswer::Wrote(size) => RoomsAnswer::Wrote(size),
         LabelsAnswer::Refused(refusal) => RoomsAnswer::Refused(refusal),
-        LabelsAnswer::Wrote(size) => {
-            put_front(&label_of, n, labels);
-            put_front(&position_of, n, positions);
-            RoomsAnswer::Wrote(size)
-        }
-    }
-}
-
-// Rooms in, on corners that stand in four lists of one length: the causes in their order, and then the record, the labels and the positions.
-fn enter(
-    left: &[u16],
-    bottom: &[u16],
-    right: &[u16],
-    top: &[u16],
-    record: &mut [u8],
-    labels: &mut [u8],
-    positions: &mut [u8],
-) -> RoomsAnswer
-    requires { ⌜ OneLength (now left) (now bottom) (now right) (now top) ⌝ }
-    ensures answer { λ r. ⌜ r ≡ roomsAnswer (roomsOf (now (left .entry)) (now (bottom .entry)) (now (right .entry)) (now (top .entry)) (length (now (left .entry)))) (length (now («record» .entry))) (length (now (labels .entry))) (length (now (positions .entry))) ⌝ }
-    ensures bytes { λ r. ⌜ now («record» .exit) ≡ written r (recordOfRooms (roomsOf (now (left .entry)) (now (bottom .entry)) (now (right .entry)) (now (top .entry)) (length (now (left .entry))))) (now («record» .entry)) ⌝ }
-    ensures each { λ r. ⌜ now (labels .exit) ≡ written r (labelsOfRooms (roomsOf (now (left .entry)) (now (bottom .entry)) (now (right .entry)) (now (top .entry)) (length (now (left .entry))))) (now (labels .entry)) ⌝ }
-    ensures places { λ r. ⌜ now (positions .exit) ≡ written r (positionsOfRooms (roomsOf (now (left .entry)) (now (bottom .entry)) (now (right .entry)) (now (top .entry)) (length (now (left .entry))))) (now (positions .entry)) ⌝ }
-{
-    let n = left.len();
-    if n == 0 {
-        return RoomsAnswer::Refused(Refusal::Count);
-    }
-    if 255 < n {
-        return RoomsAnswer::Refused(Refusal::Count);
-    }
-    let mut there = [0u16; 512];
-    let mut back = [512u16; 512];
-    match checks::judge(left, bottom, right, top, &mut there, &mut back) {
-        Verdict::RoomSize => RoomsAnswer::Refused(Refusal::RoomSize),
-        Verdict::Overlap => RoomsAnswer::Refused(Refusal::Overlap),
-        Verdict::Uncovered => RoomsAnswer::Refused(Refusal::Uncovered),
-        Verdict::FourMeet => RoomsAnswer::Refused(Refusal::FourMeet),
-        Verdict::Accepted => write(
-            left,
-            bottom,
-            right,
-            top,
-            &there,
-            &back,
-            record,
-            labels,
-            positions,
-        ),
     }
 }
 
 // ---- rooms lent as structs
 
-// Copies a room's corners to its place in each quarter of an array: the lefts stand from 0, the bottoms from 255, the rights from 510 and the tops from 765. At 255 and beyond nothing is done.
+// Copies a room's corners to its place in each quarter of an array: the lefts stand from 0, the bottoms from 255, the rights from 510 and
+// the tops from 765. At 255 and beyond nothing is done.
 fn put_room(corners: &mut [u16; 1020], at: usize, room: Room)
     requires { ⌜ length (now corners) ≡ 1020 ⌝ }
     ensures { λ _. ⌜ now (corners .exit) ≡ put (now (corners .entry)) at room ⌝ }
@@ -146,47 +87,134 @@ fn put_room(corners: &mut [u16; 1020], at: usize, room: Room)
     }
 }
 
-// Rooms in, on so many rooms that were copied. More than 255 are refused: the array does not hold them all.
-fn finish(
+// Rooms in, on 1 to 255 rooms that were copied, with arrays for the pairs of corners and for `write`: the causes in their order, and then
+// the record, the labels and the positions.
+fn decide(
     corners: &[u16; 1020],
-    count: usize,
+    n: usize,
+    there: &mut [u16],
+    back: &mut [u16],
+    by: &mut [u8],
+    list: &mut [u8],
     record: &mut [u8],
     labels: &mut [u8],
     positions: &mut [u8],
 ) -> RoomsAnswer
-    requires { ⌜ length (now corners) ≡ 1020 ⌝ }
-    ensures answer { λ r. ⌜ r ≡ roomsAnswer (roomsIn (now (corners .entry)) count) (length (now («record» .entry))) (length (now (labels .entry))) (length (now (positions .entry))) ⌝ }
-    ensures bytes { λ r. ⌜ now («record» .exit) ≡ written r (recordOfRooms (roomsIn (now (corners .entry)) count)) (now («record» .entry)) ⌝ }
-    ensures each { λ r. ⌜ now (labels .exit) ≡ written r (labelsOfRooms (roomsIn (now (corners .entry)) count)) (now (labels .entry)) ⌝ }
-    ensures places { λ r. ⌜ now (positions .exit) ≡ written r (positionsOfRooms (roomsIn (now (corners .entry)) count)) (now (positions .entry)) ⌝ }
+    requires { ⌜ (length (now corners) ≡ 1020) × (1 ≤ n) × (n ≤ 255) ⌝ }
+    requires { ⌜ Unpaired (2 * n + 2) (now there) (now back) ⌝ }
+    requires { ⌜ (n ≤ length (now by)) × (n ≤ length (now list)) ⌝ }
+    ensures { λ r. ⌜ RoomsIn (copiedRooms (now (corners .entry)) n)
+        (slices (now («record» .entry)) (now (labels .entry)) (now (positions .entry))) r
+        (slices (now («record» .exit)) (now (labels .exit)) (now (positions .exit))) ⌝ }
 {
-    if 255 < count {
+    let all = &corners[..];
+    let left = &all[..n];
+    let bottom = &all[255..255 + n];
+    let right = &all[510..510 + n];
+    let top = &all[765..765 + n];
+    match checks::judge(left, bottom, right, top, there, back) {
+        Verdict::RoomSize => RoomsAnswer::Refused(Refusal::RoomSize),
+        Verdict::Overlap => RoomsAnswer::Refused(Refusal::Overlap),
+        Verdict::Uncovered => RoomsAnswer::Refused(Refusal::Uncovered),
+        Verdict::FourMeet => RoomsAnswer::Refused(Refusal::FourMeet),
+        Verdict::Accepted => write(
+            left,
+            bottom,
+            right,
+            top,
+            there,
+            back,
+            by,
+            list,
+            record,
+            labels,
+            positions,
+        ),
+    }
+}
+
+// Rooms in, on so many rooms that were copied, with arrays for as many as there are: short ones are soon cleared. More than 255 are
+// refused: the array does not hold them all.
+fn finish(
+    all: &[u16; 1020],
+    n: usize,
+    record: &mut [u8],
+    labels: &mut [u8],
+    positions: &mut [u8],
+) -> RoomsAnswer
+    requires { ⌜ length (now all) ≡ 1020 ⌝ }
+    ensures { λ r. ⌜ RoomsIn (copiedRooms (now (all .entry)) n)
+        (slices (now («record» .entry)) (now (labels .entry)) (now (positions .entry))) r
+        (slices (now («record» .exit)) (now (labels .exit)) (now (positions .exit))) ⌝ }
+{
+    if n == 0 {
         return RoomsAnswer::Refused(Refusal::Count);
     }
-    let all = &corners[..];
-    enter(
-        &all[..count],
-        &all[255..255 + count],
-        &all[510..510 + count],
-        &all[765..765 + count],
+    if 255 < n {
+        return RoomsAnswer::Refused(Refusal::Count);
+    }
+    if n <= 15 {
+        let mut there = [0u16; 32];
+        let mut back = [512u16; 32];
+        let mut by = [0u8; 16];
+        let mut list = [0u8; 16];
+        return decide(
+            all,
+            n,
+            &mut there,
+            &mut back,
+            &mut by,
+            &mut list,
+            record,
+            labels,
+            positions,
+        );
+    }
+    if n <= 63 {
+        let mut there = [0u16; 128];
+        let mut back = [512u16; 128];
+        let mut by = [0u8; 64];
+        let mut list = [0u8; 64];
+        return decide(
+            all,
+            n,
+            &mut there,
+            &mut back,
+            &mut by,
+            &mut list,
+            record,
+            labels,
+            positions,
+        );
+    }
+    let mut there = [0u16; 512];
+    let mut back = [512u16; 512];
+    let mut by = [0u8; 255];
+    let mut list = [0u8; 255];
+    decide(
+        all,
+        n,
+        &mut there,
+        &mut back,
+        &mut by,
+        &mut list,
         record,
         labels,
         positions,
     )
 }
 
-// Rooms in, on rooms lent as structs: they are copied, and the rest is done on the copy. What takes a lent slice of structs is proved by hand: so there is one
-// loop here with one call, and one call after it.
+// Rooms in, on rooms lent as structs: they are copied, and the rest is done on the copy. What takes a lent slice of structs is proved by
+// hand: so there is one loop here with one call, and one call after it.
 pub fn rooms_in(
     rooms: &[Room],
     record: &mut [u8],
     labels: &mut [u8],
     positions: &mut [u8],
 ) -> RoomsAnswer
-    ensures answer { λ r. ⌜ r ≡ roomsAnswer (now (rooms .entry)) (length (now («record» .entry))) (length (now (labels .entry))) (length (now (positions .entry))) ⌝ }
-    ensures bytes { λ r. ⌜ now («record» .exit) ≡ written r (recordOfRooms (now (rooms .entry))) (now («record» .entry)) ⌝ }
-    ensures each { λ r. ⌜ now (labels .exit) ≡ written r (labelsOfRooms (now (rooms .entry))) (now (labels .entry)) ⌝ }
-    ensures places { λ r. ⌜ now (positions .exit) ≡ written r (positionsOfRooms (now (rooms .entry))) (now (positions .entry)) ⌝ }
+    ensures { λ r. ⌜ RoomsIn (now (rooms .entry))
+        (slices (now («record» .entry)) (now (labels .entry)) (now (positions .entry))) r
+        (slices (now («record» .exit)) (now (labels .exit)) (now (positions .exit))) ⌝ }
 {
     let mut corners = [0u16; 1020];
     let mut passed = 0;

@@ -20,10 +20,12 @@ cast-height : tie.Need-cast-height
 cast-height c = search needs
 
 mul-result : tie.Need-mul-result
-mul-result c = let a = c .before .before .args in omega (arith, area-bound (a .room .right - a .room .left) (a .room .top - a .room .bottom) (omega arith) (omega arith))
+mul-result c = let a = c .before .before .args in
+    omega (arith, area-bound (a .room .right - a .room .left) (a .room .top - a .room .bottom) (omega arith) (omega arith))
 
 returns : tie.Need-returns
-returns c = let a = c .before .before .args in (refl, area-bound (a .room .right - a .room .left) (a .room .top - a .room .bottom) (omega arith) (omega arith))
+returns c = let a = c .before .before .args in
+    (refl, area-bound (a .room .right - a .room .left) (a .room .top - a .room .bottom) (omega arith) (omega arith))
 
 pub area-spec : {M : Type 1} → statement M
 area-spec = tie.close (tie.spec sub-width cast-width sub-height cast-height mul-result returns)

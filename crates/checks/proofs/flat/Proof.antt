@@ -35,11 +35,16 @@ loop-less c = search needs
 
 loop-again : tie.Need-loop-again Inv-loop μ-loop
 loop-again c =
-    let here = c .before .before .before in
-    (omega arith, marks-more _ (here .loop .i) (here .loop .found) (c .no-size .result) (here .loop .inv .1) (rw (c .before .room-at .ensures) at (c .no-size .ensures)))
+    let here = c .before .before .before in (
+      omega arith,
+      marks-more _ (here .loop .i) (here .loop .found) (c .no-size .result) (here .loop .inv .1)
+          (rw (c .before .room-at .ensures) at (c .no-size .ensures)),
+    )
 
 returns : tie.Need-returns Inv-loop μ-loop
-returns c = let l = c .before in flat-tells _ _ _ _ (eqb (l .loop .found) 1) (marks-tell _ _ (l .loop .i) (l .loop .found) (omega (arith, c .loop-test .left)) (l .loop .inv .1))
+returns c = let l = c .before in
+    flat-tells _ _ _ _ (eqb (l .loop .found) 1)
+    (marks-tell _ _ (l .loop .i) (l .loop .found) (omega (arith, c .loop-test .left)) (l .loop .inv .1))
 
 pub flat-spec : {M : Type 1} → statement M
 flat-spec =

@@ -28,8 +28,13 @@ returns c =
     let here = c .before .before .before in
     let a = here .before .before .before .before .before .args in
     let told = c .before .shares-earlier in
-    shares-earlier→overlap (a .left .now) (a .bottom .now) (a .right .now) (a .top .now)
-    (here .loop .j, zero-le, c .before .before .loop-test .taken, told-true (SharesEarlier (a .left .now) (a .bottom .now) (a .right .now) (a .top .now) (here .loop .j)) (told .result) (c .if1 .taken) (told .ensures))
+    shares-earlier→overlap (a .left .now) (a .bottom .now) (a .right .now) (a .top .now) (
+      here .loop .j,
+      zero-le,
+      c .before .before .loop-test .taken,
+      told-true (SharesEarlier (a .left .now) (a .bottom .now) (a .right .now) (a .top .now) (here .loop .j)) (told .result)
+          (c .if1 .taken) (told .ensures),
+    )
 
 add-j : tie.Need-add-j Inv-loop μ-loop
 add-j c = search needs
@@ -42,8 +47,12 @@ loop-again c =
     let here = c .before .before .before in
     let a = here .before .before .before .before .before .args in
     let told = c .before .shares-earlier in
-    let passed = told-false (SharesEarlier (a .left .now) (a .bottom .now) (a .right .now) (a .top .now) (here .loop .j)) (told .result) (c .if1 .left) (told .ensures) in
-    (omega arith, none-here (SharesEarlier (a .left .now) (a .bottom .now) (a .right .now) (a .top .now)) (here .loop .j) (here .loop .inv .1) passed)
+    let passed = told-false (SharesEarlier (a .left .now) (a .bottom .now) (a .right .now) (a .top .now) (here .loop .j)) (told .result)
+    (c .if1 .left) (told .ensures) in (
+      omega arith,
+      none-here (SharesEarlier (a .left .now) (a .bottom .now) (a .right .now) (a .top .now)) (here .loop .j)
+          (here .loop .inv .1) passed,
+    )
 
 returns-2 : tie.Need-returns-2 Inv-loop μ-loop
 returns-2 c = λ shared. none-at-all _ _ (c .before .loop .j) (omega arith) (c .before .loop .inv .1) (overlap→shares-earlier _ _ _ _ shared)

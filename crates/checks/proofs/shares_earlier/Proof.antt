@@ -5,13 +5,14 @@ use Rattle.finite.specs.Search.{Some}
 use Rattle.checks.proofs.Scan.{marks-none, marks-more, marks-tell}
 use Rattle.checks.specs.Marks.{Marks}
 use Rattle.rooms.specs.Causes.{ShareSquare}
-use Rattle.checks.proofs.Places.{corners}
+use Rattle.checks.proofs.Places.{corners, corners-wide-and-tall}
 use borrow.Author.Needs.{needs}
 use Rattle.checks.proofs.shares_earlier.Statement.{statement}
 use Rattle.checks.proofs.shares_earlier.Tie as tie
 
 abbrev Inv-loop : tie.InvT-loop
-Inv-loop left bottom right top j room found₀ i₀ found i = (i ≤ j) × Marks found (Some (λ k. ShareSquare (corners left bottom right top k) (corners left bottom right top j)) 0 i)
+Inv-loop left bottom right top j room found₀ i₀ found i =
+    (i ≤ j) × Marks found (Some (λ k. ShareSquare (corners left bottom right top k) (corners left bottom right top j)) 0 i)
 
 abbrev μ-loop : tie.MeasureT-loop
 μ-loop left bottom right top j room found₀ i₀ found i = j - i
@@ -26,7 +27,12 @@ room-at-requires-2 : tie.Need-room-at-requires-2 Inv-loop μ-loop
 room-at-requires-2 c κs = search needs
 
 share-requires : tie.Need-share-requires Inv-loop μ-loop
-share-requires c κs = search needs
+share-requires c κs =
+    let s = c .before .before .before .before .before .before .before .before in
+    let wide = corners-wide-and-tall _ _ _ _ (s .pre .1 .1) in
+    let early = wide (c .before .before .loop .i) (omega (arith, c .before .loop-test .taken, s .pre .1 .0)) in
+    let late = wide (s .args .j) (s .pre .1 .0) in
+    (rw (c .room-at2 .ensures) (omega arith), rw (c .before .before .before .room-at .ensures) (omega arith))
 
 add-i : tie.Need-add-i Inv-loop μ-loop
 add-i c = search needs
@@ -36,8 +42,11 @@ loop-less c = search needs
 
 loop-again : tie.Need-loop-again Inv-loop μ-loop
 loop-again c =
-    let here = c .before .before .before in
-    (omega arith, marks-more _ (here .loop .i) (here .loop .found) (c .share .result) (here .loop .inv .1) (rw (c .before .room-at2 .ensures, here .before .room-at .ensures) at (c .share .ensures)))
+    let here = c .before .before .before in (
+      omega arith,
+      marks-more _ (here .loop .i) (here .loop .found) (c .share .result) (here .loop .inv .1)
+          (rw (c .before .room-at2 .ensures, here .before .room-at .ensures) at (c .share .ensures)),
+    )
 
 returns : tie.Need-returns Inv-loop μ-loop
 returns c = marks-tell _ _ (c .before .loop .i) (c .before .loop .found) (omega arith) (c .before .loop .inv .1)

@@ -1,66 +1,61 @@
--- `plans::finish` meets its contract: too many rooms are refused, and others stand in the four quarters of the array.
-use mathlib.Core.List.{List}
-use mathlib.Core.Logic.{inr}
-use mathlib.Core.Path.{refl, sym, ap, _∙_}
+-- `plans::finish` meets its contract: no room and too many are refused, and in each other case the arrays have places for the rooms and
+-- for the pairs of their corners.
+use mathlib.Core.Logic.{inl, inr}
+use mathlib.Core.Path.{refl}
 use native.Mathlib.Omega.{arith}
-use lib.ListN.{length}
 use Rattle.finite.specs.Table.{length-table}
-use Rattle.drawing.specs.declared.Room.{Room}
-use Rattle.rooms.specs.LabelList.{recordOfRooms}
-use Rattle.plans.specs.Answer.{roomsAnswer, labelsOfRooms, positionsOfRooms, written}
-use Rattle.plans.specs.Copied.{copiedAt, roomsIn}
-use Rattle.plans.specs.Demand1.{count, demand1-rooms-answer}
-use Rattle.plans.proofs.Gathered.{lefts-size, one-length, parts-rooms}
+use Rattle.plans.specs.Answer.{slices}
+use Rattle.plans.specs.Copied.{copiedAt}
+use Rattle.plans.specs.Demand1.{count}
+use Rattle.plans.proofs.Written.{refused}
 use borrow.Author.Needs.{needs}
 use Rattle.plans.proofs.finish.Statement.{statement}
 use Rattle.plans.proofs.finish.Tie as tie
 
 returns : tie.Need-returns
 returns c =
-    let s = c .before .before .before .before in
-    (demand1-rooms-answer (roomsIn (s .args .corners .now) (s .args .count)) _ _ _ (count (inr (omega (arith, length-table (copiedAt (s .args .corners .now)) (s .args .count), c .if1 .taken)))), (refl, (refl, refl)))
+    let a = c .before .before .before .before .args in
+    refused (slices (a .«record» .now) (a .labels .now) (a .positions .now))
+    (count (inl (omega (arith, length-table (copiedAt (a .all .now)) (a .n), c .if1 .taken))))
 
-slice-aggregate-enter : tie.Need-slice-aggregate-enter
-slice-aggregate-enter c = let s = c .before .before .before .before .before .before in sym (lefts-size (s .args .corners .now) (s .args .count) (s .pre) (omega (arith, c .before .before .if1 .left)))
+returns-2 : tie.Need-returns-2
+returns-2 c =
+    let a = c .before .before .before .before .before .args in
+    refused (slices (a .«record» .now) (a .labels .now) (a .positions .now))
+    (count (inr (omega (arith, length-table (copiedAt (a .all .now)) (a .n), c .if2 .taken))))
 
-add-enter : tie.Need-add-enter
-add-enter c = search needs
+slice-aggregate-decide : tie.Need-slice-aggregate-decide
+slice-aggregate-decide c = search needs
 
-sub-enter : tie.Need-sub-enter
-sub-enter c = search needs
+slice-aggregate-decide-2 : tie.Need-slice-aggregate-decide-2
+slice-aggregate-decide-2 c = search needs
 
-part-enter-start : tie.Need-part-enter-start
-part-enter-start c = search needs
+slice-aggregate-decide-3 : tie.Need-slice-aggregate-decide-3
+slice-aggregate-decide-3 c = search needs
 
-part-enter-end : tie.Need-part-enter-end
-part-enter-end c = search needs
+slice-aggregate-decide-4 : tie.Need-slice-aggregate-decide-4
+slice-aggregate-decide-4 c = search needs
 
-add-enter-2 : tie.Need-add-enter-2
-add-enter-2 c = search needs
-
-sub-enter-2 : tie.Need-sub-enter-2
-sub-enter-2 c = search needs
-
-part-enter-start-2 : tie.Need-part-enter-start-2
-part-enter-start-2 c = search needs
-
-part-enter-end-2 : tie.Need-part-enter-end-2
-part-enter-end-2 c = search needs
-
-add-enter-3 : tie.Need-add-enter-3
-add-enter-3 c = search needs
-
-sub-enter-3 : tie.Need-sub-enter-3
-sub-enter-3 c = search needs
-
-part-enter-start-3 : tie.Need-part-enter-start-3
-part-enter-start-3 c = search needs
-
-part-enter-end-3 : tie.Need-part-enter-end-3
-part-enter-end-3 c = search needs
-
-enter-requires : tie.Need-enter-requires
-enter-requires c κs = let s = c .before .before .before .before .before .before .before .before .before .before .before .before in one-length (s .args .corners .now) (s .args .count) (s .pre) (omega (arith, c .before .before .before .before .before .before .before .before .if1 .left))
+decide-requires : tie.Need-decide-requires
+decide-requires c κs =
+    let s = c .before .before .before .before .before .before .before .before .before .before .before .before .before in
+    let few = c .before .before .before .before .before .before .before .before .if2 .left in (
+      (s .pre, omega (arith, c .before .before .before .before .before .before .before .before .before .if1 .left), omega (arith, few)),
+      (
+        record {
+          few = omega (arith, few);
+          there-places =
+              omega (arith, c .before .before .before .before .before .before .before .if3 .taken);
+          back-places =
+              omega (arith, c .before .before .before .before .before .before .before .if3 .taken);
+          none-yet = refl;
+        },
+        (
+          omega (arith, c .before .before .before .before .before .before .before .if3 .taken),
+          omega (arith, c .before .before .before .before .before .before .before .if3 .taken),
+        ),
+      ),
+    )
 
 same-length : tie.Need-same-length
 same-length c = search needs
@@ -71,41 +66,127 @@ same-length-2 c = search needs
 same-length-3 : tie.Need-same-length-3
 same-length-3 c = search needs
 
-returns-2 : tie.Need-returns-2
-returns-2 c =
-    let e = c .before .before .before .before .before .before in
-    let s = c .before .before .before .before .before .before .before .before .before .before .before .before .before .before .before .before .before .before .before in
-    let same = parts-rooms (s .args .corners .now) (s .args .count) (s .pre) (omega (arith, c .before .before .before .before .before .before .before .before .before .before .before .before .before .before .before .if1 .left)) in (
-      e .enter .ensures .0 ∙ ap (λ (rooms : List Room). roomsAnswer rooms (length (s .args .«record» .now)) (length (s .args .labels .now)) (length (s .args .positions .now))) same,
+returns-3 : tie.Need-returns-3
+returns-3 c = search needs
+
+slice-aggregate-decide-5 : tie.Need-slice-aggregate-decide-5
+slice-aggregate-decide-5 c = search needs
+
+slice-aggregate-decide-6 : tie.Need-slice-aggregate-decide-6
+slice-aggregate-decide-6 c = search needs
+
+slice-aggregate-decide-7 : tie.Need-slice-aggregate-decide-7
+slice-aggregate-decide-7 c = search needs
+
+slice-aggregate-decide-8 : tie.Need-slice-aggregate-decide-8
+slice-aggregate-decide-8 c = search needs
+
+decide-requires-2 : tie.Need-decide-requires-2
+decide-requires-2 c κs =
+    let s = c .before .before .before .before .before .before .before .before .before .before .before .before .before .before in
+    let few = c .before .before .before .before .before .before .before .before .before .if2 .left in (
       (
-        e .enter .ensures .1 .0 ∙ ap (λ (rooms : List Room). written (e .enter .result) (recordOfRooms rooms) (s .args .«record» .now)) same,
+        s .pre,
+        omega (arith, c .before .before .before .before .before .before .before .before .before .before .if1 .left),
+        omega (arith, few),
+      ),
+      (
+        record {
+          few = omega (arith, few);
+          there-places =
+              omega (arith, c .before .before .before .before .before .before .before .if4 .taken);
+          back-places =
+              omega (arith, c .before .before .before .before .before .before .before .if4 .taken);
+          none-yet = refl;
+        },
         (
-          e .enter .ensures .1 .1 .0 ∙ ap (λ (rooms : List Room). written (e .enter .result) (labelsOfRooms rooms) (s .args .labels .now)) same,
-          e .enter .ensures .1 .1 .1 ∙ ap (λ (rooms : List Room). written (e .enter .result) (positionsOfRooms rooms) (s .args .positions .now)) same,
+          omega (arith, c .before .before .before .before .before .before .before .if4 .taken),
+          omega (arith, c .before .before .before .before .before .before .before .if4 .taken),
         ),
       ),
     )
+
+same-length-4 : tie.Need-same-length-4
+same-length-4 c = search needs
+
+same-length-5 : tie.Need-same-length-5
+same-length-5 c = search needs
+
+same-length-6 : tie.Need-same-length-6
+same-length-6 c = search needs
+
+returns-4 : tie.Need-returns-4
+returns-4 c = search needs
+
+slice-aggregate-decide-9 : tie.Need-slice-aggregate-decide-9
+slice-aggregate-decide-9 c = search needs
+
+slice-aggregate-decide-10 : tie.Need-slice-aggregate-decide-10
+slice-aggregate-decide-10 c = search needs
+
+slice-aggregate-decide-11 : tie.Need-slice-aggregate-decide-11
+slice-aggregate-decide-11 c = search needs
+
+slice-aggregate-decide-12 : tie.Need-slice-aggregate-decide-12
+slice-aggregate-decide-12 c = search needs
+
+decide-requires-3 : tie.Need-decide-requires-3
+decide-requires-3 c κs =
+    let s = c .before .before .before .before .before .before .before .before .before .before .before .before .before .before in
+    let few = c .before .before .before .before .before .before .before .before .before .if2 .left in (
+      (
+        s .pre,
+        omega (arith, c .before .before .before .before .before .before .before .before .before .before .if1 .left),
+        omega (arith, few),
+      ),
+      (
+        record { few = omega (arith, few); there-places = omega (arith, few); back-places = omega (arith, few); none-yet = refl },
+        (omega (arith, few), omega (arith, few)),
+      ),
+    )
+
+same-length-7 : tie.Need-same-length-7
+same-length-7 c = search needs
+
+same-length-8 : tie.Need-same-length-8
+same-length-8 c = search needs
+
+same-length-9 : tie.Need-same-length-9
+same-length-9 c = search needs
+
+returns-5 : tie.Need-returns-5
+returns-5 c = search needs
 
 pub finish-spec : {M : Type 1} → statement M
 finish-spec =
     tie.close
     (tie.spec
     returns
-    slice-aggregate-enter
-    add-enter
-    sub-enter
-    part-enter-start
-    part-enter-end
-    add-enter-2
-    sub-enter-2
-    part-enter-start-2
-    part-enter-end-2
-    add-enter-3
-    sub-enter-3
-    part-enter-start-3
-    part-enter-end-3
-    enter-requires
+    returns-2
+    slice-aggregate-decide
+    slice-aggregate-decide-2
+    slice-aggregate-decide-3
+    slice-aggregate-decide-4
+    decide-requires
     same-length
     same-length-2
     same-length-3
-    returns-2)
+    returns-3
+    slice-aggregate-decide-5
+    slice-aggregate-decide-6
+    slice-aggregate-decide-7
+    slice-aggregate-decide-8
+    decide-requires-2
+    same-length-4
+    same-length-5
+    same-length-6
+    returns-4
+    slice-aggregate-decide-9
+    slice-aggregate-decide-10
+    slice-aggregate-decide-11
+    slice-aggregate-decide-12
+    decide-requires-3
+    same-length-7
+    same-length-8
+    same-length-9
+    returns-5)

@@ -1,4 +1,5 @@
--- `plans::put_room` meets its contract: it stores where the test of the place says so, and the contract makes the same test. Each store lies within the array, since the place is below 255.
+-- `plans::put_room` meets its contract: it stores where the test of the place says so, and the contract makes the same test. Each store
+-- lies within the array, since the place is below 255.
 use borrow.Author.Needs.{needs}
 use borrow.Author.Tests.{lt-ltb, le-ltb}
 use Rattle.plans.proofs.put_room.Statement.{statement}

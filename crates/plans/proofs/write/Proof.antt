@@ -1,20 +1,21 @@
--- `plans::write` meets its contract: the slices for labels and positions are measured, both orders are walked, and Labels in writes the record or finds its slice too short.
+-- `plans::write` meets its contract: a slice that is too short is refused; then both orders are walked, and Labels in writes the record
+-- of the label list.
 use mathlib.Core.List.{List}
 use mathlib.Core.Logic.{inl, inr}
-use mathlib.Core.Path.{_≡_, refl, sym, ap, _∙_}
-use Prim.Native.Nat.{ℕ, _≤_}
+use mathlib.Core.Path.{_≡_, sym, ap, subst, _∙_}
+use Prim.Native.Nat.{ℕ}
 use native.Mathlib.Omega.{arith}
 use lib.ListN.{length, take}
-use Rattle.record.specs.Answer.{labelsAnswer, recordAfter}
 use Rattle.record.specs.declared.LabelsAnswer.{LabelsAnswer}
 use Rattle.drawing.specs.declared.Room.{Room}
-use Rattle.rooms.specs.Causes.{AcceptedRooms}
-use Rattle.rooms.specs.LabelList.{labelOf, positionOf, labelList}
-use Rattle.rooms.specs.Corners.{roomsOf, length-rooms}
+use Rattle.rooms.specs.LabelList.{labelList}
 use Rattle.rooms.specs.Demand3.{rooms-give-baxter}
+use Rattle.corners.specs.ListPlan.{roomsFrom}
 use Rattle.orders.specs.InOrder.{LabelsInOrder}
-use Rattle.plans.specs.Demand1.{short, demand1-rooms-answer}
-use Rattle.plans.proofs.Written.{forRooms, same-answer, same-record, each-front}
+use Rattle.orders.specs.CornerLists.{many}
+use Rattle.plans.specs.Answer.{Short, Slices, slices, RoomsIn}
+use Rattle.plans.specs.Demand1.{short}
+use Rattle.plans.proofs.Written.{refused, forRooms, size-is, listed-from, written-for}
 use borrow.Author.Needs.{needs}
 use Rattle.plans.proofs.write.Statement.{statement}
 use Rattle.plans.proofs.write.Tie as tie
@@ -22,88 +23,170 @@ use Rattle.plans.proofs.write.Reads as reads
 use Rattle.plans.proofs.write.Lts as lts
 use Rattle.labels.proofs.labels_in.Reads as labels-in-reads
 use Rattle.orders.proofs.label_list.Reads as label-list-reads
-use Rattle.orders.proofs.labels.Reads as labels-reads
-use Rattle.orders.proofs.positions.Reads as positions-reads
-use Rattle.plans.proofs.put_front.Reads as put-front-reads
+use Rattle.orders.proofs.labels_and_positions.Reads as labels-and-positions-reads
 
--- the rooms, of which there are as many as corners in each list
-abbrev roomsAt : lts.Start (positions-reads.Asked, positions-reads.Learnt, labels-reads.Asked, labels-reads.Learnt, label-list-reads.Asked, label-list-reads.Learnt, labels-in-reads.Asked, labels-in-reads.Learnt, put-front-reads.Asked, put-front-reads.Learnt) reads.Pre reads.Post → List Room
-roomsAt s = roomsOf (s .args .left .now) (s .args .bottom .now) (s .args .right .now) (s .args .top .now) (length (s .args .left .now))
+abbrev claims : lts.Claims
+claims = (
+  labels-and-positions-reads.Asked,
+  labels-and-positions-reads.Learnt,
+  label-list-reads.Asked,
+  label-list-reads.Learnt,
+  labels-in-reads.Asked,
+  labels-in-reads.Learnt,
+)
 
-size : (s : lts.Start (positions-reads.Asked, positions-reads.Learnt, labels-reads.Asked, labels-reads.Learnt, label-list-reads.Asked, label-list-reads.Learnt, labels-in-reads.Asked, labels-in-reads.Learnt, put-front-reads.Asked, put-front-reads.Learnt) reads.Pre reads.Post) → length (roomsAt s) ≡ length (s .args .left .now)
-size s = length-rooms (s .args .left .now) (s .args .bottom .now) (s .args .right .now) (s .args .top .now) (length (s .args .left .now))
+abbrev Began : Type 0
+Began = lts.Start claims reads.Pre reads.Post
 
-accepted : (s : lts.Start (positions-reads.Asked, positions-reads.Learnt, labels-reads.Asked, labels-reads.Learnt, label-list-reads.Asked, label-list-reads.Learnt, labels-in-reads.Asked, labels-in-reads.Learnt, put-front-reads.Asked, put-front-reads.Learnt) reads.Pre reads.Post) → AcceptedRooms (roomsAt s)
-accepted s = s .pre .1 .0
+abbrev Long : Type 0
+Long = lts.Else3 claims reads.Pre reads.Post
 
-few : (s : lts.Start (positions-reads.Asked, positions-reads.Learnt, labels-reads.Asked, labels-reads.Learnt, label-list-reads.Asked, label-list-reads.Learnt, labels-in-reads.Asked, labels-in-reads.Learnt, put-front-reads.Asked, put-front-reads.Learnt) reads.Pre reads.Post) → length (s .args .left .now) ≤ 255
-few s = omega (arith, size s, rooms-give-baxter (roomsAt s) (accepted s) .few)
+abbrev Walked : Type 0
+Walked = lts.After-positions claims reads.Pre reads.Post
 
--- what the two walks have left
-abbrev start : lts.Else2 (positions-reads.Asked, positions-reads.Learnt, labels-reads.Asked, labels-reads.Learnt, label-list-reads.Asked, label-list-reads.Learnt, labels-in-reads.Asked, labels-in-reads.Learnt, put-front-reads.Asked, put-front-reads.Learnt) reads.Pre reads.Post → lts.Start (positions-reads.Asked, positions-reads.Learnt, labels-reads.Asked, labels-reads.Learnt, label-list-reads.Asked, label-list-reads.Learnt, labels-in-reads.Asked, labels-in-reads.Learnt, put-front-reads.Asked, put-front-reads.Learnt) reads.Pre reads.Post
-start e = e .before .before .before .before .before .before .before .before .before
+abbrev Listed : Type 0
+Listed = lts.After-label-list claims reads.Pre reads.Post
 
-walked : (e : lts.After-labels (positions-reads.Asked, positions-reads.Learnt, labels-reads.Asked, labels-reads.Learnt, label-list-reads.Asked, label-list-reads.Learnt, labels-in-reads.Asked, labels-in-reads.Learnt, put-front-reads.Asked, put-front-reads.Learnt) reads.Pre reads.Post) → LabelsInOrder (roomsAt (start (e .before .before .before .before .before))) (length (start (e .before .before .before .before .before) .args .left .now)) (e .labels .last .1 .1 .1 .1 .1 .1 .0) (e .before .before .positions .last .1 .1 .1 .1 .1 .1 .0)
-walked e = record { accepted = accepted (start (e .before .before .before .before .before)); count = size (start (e .before .before .before .before .before)); labels-are = e .labels .ensures .1; by-position = e .before .before .positions .ensures .1 .0 }
+abbrev Told : Type 0
+Told = lts.After-labels-in claims reads.Pre reads.Post
 
--- the label list
-listed : (e : lts.After-label-list (positions-reads.Asked, positions-reads.Learnt, labels-reads.Asked, labels-reads.Learnt, label-list-reads.Asked, label-list-reads.Learnt, labels-in-reads.Asked, labels-in-reads.Learnt, put-front-reads.Asked, put-front-reads.Learnt) reads.Pre reads.Post) → take (length (start (e .before .before .before .before .before .before .before .before .before) .args .left .now)) (e .label-list .last .1 .1 .1 .0) ≡ labelList (roomsAt (start (e .before .before .before .before .before .before .before .before .before)))
-listed e = e .label-list .ensures .1 (roomsAt (start (e .before .before .before .before .before .before .before .before .before))) (walked (e .before .before .before .before))
+abbrev Numbered : Type 0
+Numbered = lts.After-labels-and-positions claims reads.Pre reads.Post
 
--- what Labels in answers for it
-told : (e : lts.After-labels-in (positions-reads.Asked, positions-reads.Learnt, labels-reads.Asked, labels-reads.Learnt, label-list-reads.Asked, label-list-reads.Learnt, labels-in-reads.Asked, labels-in-reads.Learnt, put-front-reads.Asked, put-front-reads.Learnt) reads.Pre reads.Post) → e .labels-in .result ≡ labelsAnswer (labelList (roomsAt (start (e .before .before .before .before .before .before .before .before .before .before .before .before)))) (length (start (e .before .before .before .before .before .before .before .before .before .before .before .before) .args .«record» .now))
-told e = e .labels-in .ensures .answered ∙ ap (λ (list : List ℕ). labelsAnswer list (length (start (e .before .before .before .before .before .before .before .before .before .before .before .before) .args .«record» .now))) (listed (e .before .before .before))
+-- where each began
+abbrev startOfLong : Long → Began
+startOfLong e = e .before .before .before .before .before .before .before .before .before .before .before .before .before .before
 
-enough : (e : lts.Else2 (positions-reads.Asked, positions-reads.Learnt, labels-reads.Asked, labels-reads.Learnt, label-list-reads.Asked, label-list-reads.Learnt, labels-in-reads.Asked, labels-in-reads.Learnt, put-front-reads.Asked, put-front-reads.Learnt) reads.Pre reads.Post) → (length (roomsAt (start e)) ≤ length (start e .args .labels .now)) × (length (roomsAt (start e)) ≤ length (start e .args .positions .now))
-enough e = (omega (arith, size (start e), e .before .if1 .left), omega (arith, size (start e), e .if2 .left))
+abbrev startOfWalked : Walked → Began
+startOfWalked e = e .before .before .before .before .before .before .before .before .before .before .before .before .before .before .before .before .before .before .before .before .before .before .before .before .before .before
+
+abbrev startOfListed : Listed → Began
+startOfListed e = e .before .before .before .before .before .before .before .before .before .before .before .before .before .before .before .before .before .before .before .before .before .before .before .before .before .before .before .before .before .before .before
+
+abbrev startOfTold : Told → Began
+startOfTold e = e .before .before .before .before .before .before .before .before .before .before .before .before .before .before .before .before .before .before .before .before .before .before .before .before .before .before .before .before .before .before .before .before .before .before .before .before
+
+-- the rooms by position, the labels and the positions that the walks left
+abbrev byOf : Numbered → List ℕ
+byOf e = e .labels-and-positions .last .1 .1 .1 .1 .1 .1 .0
+
+abbrev labelsOf : Numbered → List ℕ
+labelsOf e = e .labels-and-positions .last .1 .1 .1 .1 .1 .1 .1 .1 .0
+
+abbrev positionsOf : Numbered → List ℕ
+positionsOf e = e .labels-and-positions .last .1 .1 .1 .1 .1 .1 .1 .1 .1 .0
+
+-- the rooms, of which there are as many as corners in each list, and the slices at the start
+abbrev roomsAt : Began → List Room
+roomsAt s = let a = s .args in roomsFrom (a .left .now) (a .bottom .now) (a .right .now) (a .top .now)
+
+abbrev before : Began → Slices
+before s = slices (s .args .«record» .now) (s .args .labels .now) (s .args .positions .now)
+
+long : (e : Long) → ¬ Short (roomsAt (startOfLong e)) (length (before (startOfLong e) .bytes)) (length (before (startOfLong e) .labels))
+    (length (before (startOfLong e) .positions))
+long e (inl h) = omega (arith, e .before .before .if1 .left, size-is _ (startOfLong e .pre .0 .accepted), many (startOfLong e .pre .0))
+long e (inr (inl h)) = omega (arith, e .before .if2 .left, many (startOfLong e .pre .0))
+long e (inr (inr h)) = omega (arith, e .if3 .left, many (startOfLong e .pre .0))
+
+-- the labels at the rooms' places, the rooms by position, and the label list that is made of them
+ordered : (e : Walked) → LabelsInOrder (roomsAt (startOfWalked e)) (length (startOfWalked e .args .left .now))
+    (labelsOf (e .before .before .before .before .before .before .before))
+    (byOf (e .before .before .before .before .before .before .before))
+ordered e =
+    let s = startOfWalked e in
+    listed-from _ (s .pre .0 .accepted) (e .before .before .before .before .before .before .before .labels-and-positions .ensures)
+    (sym (many (s .pre .0))) (omega (
+      arith,
+      e .before .before .labels .given,
+      e .before .before .before .before .before .before .before .before .before .before .before .before .before .if2 .left,
+    ))
+    (omega (arith, e .before .before .before .before .before .before .by .given, s .pre .1 .0))
+
+listed : (e : Listed) → take (length (startOfListed e .args .left .now)) (e .label-list .last .1 .1 .1 .0) ≡ labelList
+    (roomsAt (startOfListed e))
+listed e = e .label-list .ensures (roomsAt (startOfListed e)) (ordered (e .before .before .before .before .before))
+
+-- what is left in the end
+abbrev after : Told → Slices
+after e = slices (e .labels-in .last .1 .0)
+    (labelsOf (e .before .before .before .before .before .before .before .before .before .before .before .before .before .before .before .before .before)) (positionsOf (e .before .before .before .before .before .before .before .before .before .before .before .before .before .before .before .before .before))
+
+done : (e : Told) → RoomsIn (roomsAt (startOfTold e)) (before (startOfTold e)) (forRooms (e .labels-in .result)) (after e)
+done e =
+    let s = startOfTold e in
+    let told = e .labels-in .ensures in
+    written-for _ (s .pre .0 .accepted) (before s)
+    (long (e .before .before .before .before .before .before .before .before .before .before .before .before .before .before .before .before .before .before .before .before .before .before)) _ _ (sym (many (s .pre .0))) (listed (e .before .before .before .before .before)) (told .answered) (told .left)
+    (e .before .before .before .before .before .before .before .before .before .before .before .before .before .before .before .before .before .labels-and-positions .ensures)
+
+mul-if1 : tie.Need-mul-if1
+mul-if1 c = search needs
+
+add-if1 : tie.Need-add-if1
+add-if1 c = search needs
+
+add-if1-2 : tie.Need-add-if1-2
+add-if1-2 c = search needs
 
 returns : tie.Need-returns
-returns c = let s = c .before .before .before .before .before .before .before .before in (demand1-rooms-answer (roomsAt s) _ _ _ (short (accepted s) (inr (inl (omega (arith, size s, c .if1 .taken))))), (refl, (refl, refl)))
+returns c = let s = c .before .before .before .before .before .before .before .before .before .before .before .before in
+    refused (before s) (short (s .pre .0 .accepted) (inl (omega (arith, c .if1 .taken, size-is _ (s .pre .0 .accepted), many (s .pre .0)))))
 
 returns-2 : tie.Need-returns-2
-returns-2 c = let s = c .before .before .before .before .before .before .before .before .before in (demand1-rooms-answer (roomsAt s) _ _ _ (short (accepted s) (inr (inr (omega (arith, size s, c .if2 .taken))))), (refl, (refl, refl)))
+returns-2 c = let s = c .before .before .before .before .before .before .before .before .before .before .before .before .before in
+    refused (before s) (short (s .pre .0 .accepted) (inr (inl (omega (arith, c .if2 .taken, many (s .pre .0))))))
 
-positions-requires : tie.Need-positions-requires
-positions-requires c κs = let s = c .before .before .before .before .before .before .before .before .before .before .before in let (there, back) = s .pre .1 .1 .1 in (s .pre .0, (s .pre .1 .0, (s .pre .1 .1 .0, (there, back, refl, refl))))
+returns-3 : tie.Need-returns-3
+returns-3 c = let s = c .before .before .before .before .before .before .before .before .before .before .before .before .before .before in
+    refused (before s) (short (s .pre .0 .accepted) (inr (inr (omega (arith, c .if3 .taken, many (s .pre .0))))))
 
-labels-requires : tie.Need-labels-requires
-labels-requires c κs = let s = c .before .before .before .before .before .before .before .before .before .before .before .before .before in let (there, back) = s .pre .1 .1 .1 in (s .pre .0, (s .pre .1 .0, (s .pre .1 .1 .0, (there, back, refl))))
+labels-and-positions-requires : tie.Need-labels-and-positions-requires
+labels-and-positions-requires c κs = let s = startOfLong (c .before .before .before .before) in (
+  s .pre .0,
+  (
+    s .pre .1,
+    (
+      omega (arith, c .before .before .before .before .before .if2 .left),
+      omega (arith, c .before .before .before .before .if3 .left),
+    ),
+  ),
+)
 
 label-list-requires : tie.Need-label-list-requires
-label-list-requires c κs = let e = c .before .before .before in ((roomsAt (start (e .before .before .before .before .before)), walked e), refl)
+label-list-requires c κs = (
+  (roomsAt (startOfWalked (c .before .before .before .before)), ordered (c .before .before .before .before)),
+  omega (
+    arith,
+    c .before .before .before .before .before .before .before .before .list .given,
+    startOfWalked (c .before .before .before .before) .pre .1 .1,
+  ),
+)
 
-array-share-prefix-list : tie.Need-array-share-prefix-list
-array-share-prefix-list c = omega (arith, few (start (c .before .before .before .before .before .before .before .before .before)), c .label-list .ensures .0)
+slice-reshare-prefix-labels-in : tie.Need-slice-reshare-prefix-labels-in
+slice-reshare-prefix-labels-in c =
+    omega (
+      arith,
+      c .before .before .before .before .before .before .before .before .before .before .before .list .given,
+      c .before .list2 .given,
+      startOfListed (c .before .before) .pre .1 .1,
+    )
 
 slice-aggregate-labels-in : tie.Need-slice-aggregate-labels-in
-slice-aggregate-labels-in c = let t = start (c .before .before .before .before .before .before .before .before .before .before) in sym (ap length (listed (c .before)) ∙ rooms-give-baxter (roomsAt t) (accepted t) .size ∙ size t)
+slice-aggregate-labels-in c = let s = startOfListed (c .before .before .before) in
+    sym (ap length (listed (c .before .before .before)) ∙ rooms-give-baxter (roomsAt s) (s .pre .0 .accepted) .size ∙ many (s .pre .0))
 
 labels-in-requires : tie.Need-labels-in-requires
 labels-in-requires c κs = search needs
 
-enum-known-refusal : tie.Need-enum-known-refusal
-enum-known-refusal c = search needs
-
 enum-known-size : tie.Need-enum-known-size
 enum-known-size c = search needs
 
-put-front-requires : tie.Need-put-front-requires
-put-front-requires c κs = let e = c .before .before .before .before .before .before .before .before .before .before .before .before .before .before .before .before .before .before .before in (few (start e), e .before .if1 .left)
-
-put-front-requires-2 : tie.Need-put-front-requires-2
-put-front-requires-2 c κs = let e = c .before .before .before .before .before .before .before .before .before .before .before .before .before .before .before .before .before .before .before .before .before .before .before .before in (few (start e), e .if2 .left)
+enum-known-refusal : tie.Need-enum-known-refusal
+enum-known-refusal c = search needs
 
 same-length : tie.Need-same-length
 same-length c = search needs
-
-returns-3 : tie.Need-returns-3
-returns-3 c =
-    let f = c .before .before .before .before .before in
-    let e = f .before .before .before .before .before .before .before .before .before .before .before .before in
-    let t = start e in (
-      ap forRooms (sym (c .before .refusal .given .1) ∙ told f) ∙ same-answer (roomsAt t) (accepted t) _ _ _ (enough e .0) (enough e .1),
-      (f .labels-in .ensures .left ∙ ap (λ (r : LabelsAnswer). recordAfter r (take (length (t .args .left .now)) (f .before .before .before .label-list .last .1 .1 .1 .0)) (t .args .«record» .now)) (c .before .refusal .given .1), (refl, refl)),
-    )
 
 same-length-2 : tie.Need-same-length-2
 same-length-2 c = search needs
@@ -114,42 +197,60 @@ same-length-3 c = search needs
 same-length-4 : tie.Need-same-length-4
 same-length-4 c = search needs
 
+same-length-5 : tie.Need-same-length-5
+same-length-5 c = search needs
+
 returns-4 : tie.Need-returns-4
-returns-4 c =
-    let f = c .before .before .before .before .before .before .before .before .before .before .before .before .before .before .before in
-    let e = f .before .before .before .before .before .before .before .before .before .before .before .before in
-    let t = start e in
-    let given = c .before .before .before .before .before .before .before .before .before .before .before .size .given in
-    let at = walked (f .before .before .before .before .before .before .before) in (
-      ap forRooms (sym (given .1) ∙ told f) ∙ same-answer (roomsAt t) (accepted t) _ _ _ (enough e .0) (enough e .1),
-      (
-        f .labels-in .ensures .left ∙ (λ i. recordAfter (given .1 i) (listed (f .before .before .before) i) (t .args .«record» .now)) ∙ same-record (roomsAt t) (accepted t) (length (t .args .«record» .now)) _ (t .args .«record» .now) (sym (given .1) ∙ told f),
-        (
-          c .before .before .before .before .before .before .before .put-front .ensures ∙ each-front (roomsAt t) (labelOf (roomsAt t)) (f .before .before .before .before .before .before .before .labels .last .1 .1 .1 .1 .1 .1 .0) (t .args .labels .now) _ (sym (size t)) (at .labels-are),
-          c .before .before .put-front2 .ensures ∙ each-front (roomsAt t) (positionOf (roomsAt t)) (f .before .before .before .before .before .before .before .before .before .positions .last .1 .1 .1 .1 .1 .1 .1 .0) (t .args .positions .now) _ (sym (size t)) (f .before .before .before .before .before .before .before .before .before .positions .ensures .1 .1),
-        ),
-      ),
-    )
+returns-4 c = subst (λ (a : LabelsAnswer). RoomsIn (roomsAt (startOfTold (c .before .before .before .before .before)))
+    (before (startOfTold (c .before .before .before .before .before))) (forRooms a) (after (c .before .before .before .before .before)))
+    (c .before .size .given .1) (done (c .before .before .before .before .before))
+
+same-length-6 : tie.Need-same-length-6
+same-length-6 c = search needs
+
+same-length-7 : tie.Need-same-length-7
+same-length-7 c = search needs
+
+same-length-8 : tie.Need-same-length-8
+same-length-8 c = search needs
+
+same-length-9 : tie.Need-same-length-9
+same-length-9 c = search needs
+
+same-length-10 : tie.Need-same-length-10
+same-length-10 c = search needs
+
+returns-5 : tie.Need-returns-5
+returns-5 c = subst (λ (a : LabelsAnswer). RoomsIn (roomsAt (startOfTold (c .before .before .before .before .before)))
+    (before (startOfTold (c .before .before .before .before .before))) (forRooms a) (after (c .before .before .before .before .before)))
+    (c .before .refusal .given .1) (done (c .before .before .before .before .before))
 
 pub write-spec : {M : Type 1} → statement M
 write-spec =
     tie.close
     (tie.spec
+    mul-if1
+    add-if1
+    add-if1-2
     returns
     returns-2
-    positions-requires
-    labels-requires
+    returns-3
+    labels-and-positions-requires
     label-list-requires
-    array-share-prefix-list
+    slice-reshare-prefix-labels-in
     slice-aggregate-labels-in
     labels-in-requires
-    enum-known-refusal
     enum-known-size
-    put-front-requires
-    put-front-requires-2
+    enum-known-refusal
     same-length
-    returns-3
     same-length-2
     same-length-3
     same-length-4
-    returns-4)
+    same-length-5
+    returns-4
+    same-length-6
+    same-length-7
+    same-length-8
+    same-length-9
+    same-length-10
+    returns-5)
