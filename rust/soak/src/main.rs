@@ -24,7 +24,7 @@ use std::sync::atomic::{AtomicUsize, Ordering};
 use std::{env, panic, process, thread};
 
 /// Batches, unless the argument says otherwise.
-const BATCHES: usize = 10_000;
+const BATCHES: usize = 5_000;
 
 const THREADS: usize = 2;
 
