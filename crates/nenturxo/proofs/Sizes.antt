@@ -8,9 +8,9 @@ use Rattle.drawing.specs.declared.Room.{Room}
 use Rattle.rooms.specs.Causes.{AcceptedRooms}
 use Rattle.rooms.specs.LabelList.{labelList, recordOfRooms}
 use Rattle.rooms.specs.Demand3.{rooms-give-baxter}
-use Rattle.plans.specs.Answer.{roomsAnswer}
-use Rattle.plans.specs.Demand1.{RoomsSays, count, size, overlap, uncovered, four-meet, short, wrote, demand1-rooms-cause}
-use Rattle.plans.specs.declared.RoomsAnswer.{RoomsAnswer}
+use Rattle.entering.specs.Answer.{roomsAnswer}
+use Rattle.entering.specs.Demand1.{RoomsSays, count, size, overlap, uncovered, four-meet, short, wrote, demand1-rooms-cause}
+use Rattle.entering.specs.declared.RoomsAnswer.{RoomsAnswer}
 use Rattle.nenturxo.specs.Size.{AtMost97}
 
 record-small : (rooms : List Room) → AcceptedRooms rooms → length (recordOfRooms rooms) ≤ 97

@@ -13,8 +13,8 @@ use Rattle.answers.specs.declared.RecordAnswer.{RecordAnswer}
 use Rattle.answers.specs.declared.RecordAnswer.the-variants as recordIn
 use Rattle.questions.specs.declared.QuestionAnswer.{QuestionAnswer}
 use Rattle.questions.specs.declared.QuestionAnswer.the-variants as question
-use Rattle.plans.specs.declared.RoomsAnswer.{RoomsAnswer}
-use Rattle.plans.specs.declared.RoomsAnswer.the-variants as roomsIn
+use Rattle.entering.specs.declared.RoomsAnswer.{RoomsAnswer}
+use Rattle.entering.specs.declared.RoomsAnswer.the-variants as roomsIn
 
 -- the number that a call returns is that of its answer, and with this answer it did what is said of it
 pub record Coded {A : Type 0} (code : A → ℤ) (number : ℤ) (Did : A → Type 0) : Type 0 where

@@ -1,7 +1,7 @@
 -- What `rooms_code` asks of an answer of Rooms in: a record of at most 97 bytes, so that its length fits the number returned.
 use Prim.Native.Nat.{_≤_}
-use Rattle.plans.specs.declared.RoomsAnswer.{RoomsAnswer}
-use Rattle.plans.specs.declared.RoomsAnswer.the-variants.{Wrote, Refused}
+use Rattle.entering.specs.declared.RoomsAnswer.{RoomsAnswer}
+use Rattle.entering.specs.declared.RoomsAnswer.the-variants.{Wrote, Refused}
 
 abbrev pub AtMost97 : RoomsAnswer → Type 0
 AtMost97 (Wrote size) = size ≤ 97

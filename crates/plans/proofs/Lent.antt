@@ -27,7 +27,7 @@ use denote.Triple.Clauses.{Ended, Clauses, closing, atExit}
 use denote.Triple.Walked.{Stays, stay-none-slice, gave-slice, walkOf, goes-none-slice, goes-gave-slice, ends-at, walked, walk-meets}
 use Rattle.drawing.specs.declared.Room.{Room}
 use Rattle.drawing.proofs.Room as R
-use Rattle.plans.specs.Answer.{Slices, slices}
+use Rattle.entering.specs.Answer.{Slices, slices}
 
 -- ---- facts beside an ending
 tells : {M : Type 1} {𝓤 : URA M} {H : Heap 𝓤} {A : Atoms 𝓤} {K : Type 0} {W : Given 𝓤 H A} {Γ : List (Item 𝓤)} → K → {P Q : SProp 𝓤}

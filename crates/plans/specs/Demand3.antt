@@ -23,10 +23,10 @@ use Rattle.answers.specs.Answer as answers
 use Rattle.answers.specs.Demand1.{refused-record, written as read-written, demand1-record-answer}
 use Rattle.answers.specs.declared.RecordAnswer.{RecordAnswer}
 use Rattle.answers.specs.declared.RecordAnswer.the-variants as recordIn
-use Rattle.plans.specs.Answer.{Short, roomsAnswer, Slices, RoomsIn}
-use Rattle.plans.specs.Demand1.{RoomsSays, count, size, overlap, uncovered, four-meet, short, wrote, demand1-rooms-cause, demand1-rooms-answer}
-use Rattle.plans.specs.declared.RoomsAnswer.{RoomsAnswer}
-use Rattle.plans.specs.declared.RoomsAnswer.the-variants.{Wrote, Refused}
+use Rattle.entering.specs.Answer.{Short, roomsAnswer, Slices, RoomsIn}
+use Rattle.entering.specs.Demand1.{RoomsSays, count, size, overlap, uncovered, four-meet, short, wrote, demand1-rooms-cause, demand1-rooms-answer}
+use Rattle.entering.specs.declared.RoomsAnswer.{RoomsAnswer}
+use Rattle.entering.specs.declared.RoomsAnswer.the-variants.{Wrote, Refused}
 
 -- ---- what an answer that is no refusal says
 abbrev Accepts : List Room → RoomsAnswer → Type 0

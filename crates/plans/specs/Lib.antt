@@ -1,5 +1,2 @@
--- Rooms in.
-pub mod Answer
-pub mod Copied
-pub mod Demand1
+-- Demand 3 of the calls.
 pub mod Demand3

@@ -35,11 +35,11 @@ use denote.Triple.Table.{entered, cited}
 use denote.Triple.Walked.{says}
 use denote.Triple.Clauses.{ensured, lasts}
 use Rattle.drawing.proofs.Room as R
-use Rattle.plans.specs.Answer.{slices, RoomsIn}
-use Rattle.plans.specs.declared.RoomsAnswer.{RoomsAnswer}
+use Rattle.entering.specs.Answer.{slices, RoomsIn}
+use Rattle.entering.specs.declared.RoomsAnswer.{RoomsAnswer}
 use Rattle.plans.proofs.Lent.{Lent, lives, shares, lent, given, at, u, s₁, s₂, s₃, Fits, Tokens, Own, OwnS, OwnM, Post, ends, meets}
-use Rattle.plans.proofs.RoomsAnswer as E
-use Rattle.plans.proofs.RoomsAnswer.Laws as E′
+use Rattle.entering.proofs.RoomsAnswer as E
+use Rattle.entering.proofs.RoomsAnswer.Laws as E′
 use Rattle.plans.proofs.rooms_in as rooms-in
 use Rattle.plans.proofs.rooms_in.Symbol as rooms-in-def
 use Rattle.plans.proofs.rooms_in.Symbol.{name as #plans·rooms-in}

@@ -4,10 +4,10 @@ use mathlib.Core.Logic.{inl, inr}
 use mathlib.Core.Path.{refl}
 use native.Mathlib.Omega.{arith}
 use Rattle.finite.specs.Table.{length-table}
-use Rattle.plans.specs.Answer.{slices}
-use Rattle.plans.specs.Copied.{copiedAt}
-use Rattle.plans.specs.Demand1.{count}
-use Rattle.plans.proofs.Written.{refused}
+use Rattle.entering.specs.Answer.{slices}
+use Rattle.entering.specs.Copied.{copiedAt}
+use Rattle.entering.specs.Demand1.{count}
+use Rattle.entering.specs.Written.{refused}
 use borrow.Author.Needs.{needs}
 use Rattle.plans.proofs.finish.Statement.{statement}
 use Rattle.plans.proofs.finish.Tie as tie

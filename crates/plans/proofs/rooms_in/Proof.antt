@@ -59,13 +59,13 @@ use Rattle.drawing.specs.declared.Room.{Room}
 use Rattle.drawing.proofs.Room as R
 use Rattle.drawing.proofs.Room.Laws as R′
 use Rattle.rooms.specs.Outline.{roomIn}
-use Rattle.plans.specs.Answer.{slices, RoomsIn}
-use Rattle.plans.specs.Copied.{put, copiedRooms}
-use Rattle.plans.specs.declared.RoomsAnswer.{RoomsAnswer}
-use Rattle.plans.proofs.Gathered.{Holds, holds-none, holds-more, copied-in}
+use Rattle.entering.specs.Answer.{slices, RoomsIn}
+use Rattle.entering.specs.Copied.{put, copiedRooms}
+use Rattle.entering.specs.declared.RoomsAnswer.{RoomsAnswer}
+use Rattle.entering.specs.Gathered.{Holds, holds-none, holds-more, copied-in}
 use Rattle.plans.proofs.Lent.{Lent, lives, shares, lent, given as before, u, s₁, s₂, s₃, at, OwnM, Own, Fits, OutTokens, Tokens, Post, ends, meets}
-use Rattle.plans.proofs.RoomsAnswer as E
-use Rattle.plans.proofs.RoomsAnswer.Laws as E′
+use Rattle.entering.proofs.RoomsAnswer as E
+use Rattle.entering.proofs.RoomsAnswer.Laws as E′
 use Rattle.plans.proofs.put_room as put-room
 use Rattle.plans.proofs.put_room.Symbol as put-def
 use Rattle.plans.proofs.put_room.Symbol.{name as #plans·put-room}

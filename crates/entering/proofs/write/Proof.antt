@@ -1,4 +1,4 @@
--- `plans::write` meets its contract: a slice that is too short is refused; then both orders are walked, and Labels in writes the record
+-- `entering::write` meets its contract: a slice that is too short is refused; then both orders are walked, and Labels in writes the record
 -- of the label list.
 use mathlib.Core.List.{List}
 use mathlib.Core.Logic.{inl, inr}
@@ -13,14 +13,14 @@ use Rattle.rooms.specs.Demand3.{rooms-give-baxter}
 use Rattle.corners.specs.ListPlan.{roomsFrom}
 use Rattle.orders.specs.InOrder.{LabelsInOrder}
 use Rattle.orders.specs.CornerLists.{many}
-use Rattle.plans.specs.Answer.{Short, Slices, slices, RoomsIn}
-use Rattle.plans.specs.Demand1.{short}
-use Rattle.plans.proofs.Written.{refused, forRooms, size-is, listed-from, written-for}
+use Rattle.entering.specs.Answer.{Short, Slices, slices, RoomsIn}
+use Rattle.entering.specs.Demand1.{short}
+use Rattle.entering.specs.Written.{refused, forRooms, size-is, listed-from, written-for}
 use borrow.Author.Needs.{needs}
-use Rattle.plans.proofs.write.Statement.{statement}
-use Rattle.plans.proofs.write.Tie as tie
-use Rattle.plans.proofs.write.Reads as reads
-use Rattle.plans.proofs.write.Lts as lts
+use Rattle.entering.proofs.write.Statement.{statement}
+use Rattle.entering.proofs.write.Tie as tie
+use Rattle.entering.proofs.write.Reads as reads
+use Rattle.entering.proofs.write.Lts as lts
 use Rattle.labels.proofs.labels_in.Reads as labels-in-reads
 use Rattle.orders.proofs.label_list.Reads as label-list-reads
 use Rattle.orders.proofs.labels_and_positions.Reads as labels-and-positions-reads

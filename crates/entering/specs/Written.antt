@@ -20,10 +20,10 @@ use Rattle.rooms.specs.Causes.{AcceptedRooms}
 use Rattle.rooms.specs.LabelList.{labelOf, positionOf, labelList, recordOfRooms}
 use Rattle.rooms.specs.Demand3.{BaxterOf, rooms-give-baxter}
 use Rattle.orders.specs.InOrder.{Numbered, LabelsInOrder}
-use Rattle.plans.specs.Answer.{Short, Slices, slices, RoomsIn}
-use Rattle.plans.specs.Demand1.{RoomsSays, wrote, demand1-rooms-answer}
-use Rattle.plans.specs.declared.RoomsAnswer.{RoomsAnswer}
-use Rattle.plans.specs.declared.RoomsAnswer.the-variants.{Wrote, Refused}
+use Rattle.entering.specs.Answer.{Short, Slices, slices, RoomsIn}
+use Rattle.entering.specs.Demand1.{RoomsSays, wrote, demand1-rooms-answer}
+use Rattle.entering.specs.declared.RoomsAnswer.{RoomsAnswer}
+use Rattle.entering.specs.declared.RoomsAnswer.the-variants.{Wrote, Refused}
 
 -- a refusal with its cause leaves the slices as they were
 pub refused : {rooms : List Room} {refusal : Refusal} (before : Slices)

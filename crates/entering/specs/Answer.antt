@@ -13,8 +13,8 @@ use Rattle.record.specs.declared.Refusal.the-variants as refusal
 use Rattle.drawing.specs.declared.Room.{Room}
 use Rattle.rooms.specs.LabelList.{labelOf, positionOf, recordOfRooms}
 use Rattle.rooms.specs.DecideCauses.{dec-room-size, dec-overlap, dec-uncovered, dec-four-meet}
-use Rattle.plans.specs.declared.RoomsAnswer.{RoomsAnswer}
-use Rattle.plans.specs.declared.RoomsAnswer.the-variants.{Wrote, Refused}
+use Rattle.entering.specs.declared.RoomsAnswer.{RoomsAnswer}
+use Rattle.entering.specs.declared.RoomsAnswer.the-variants.{Wrote, Refused}
 
 -- "an output slice too short": for the record, or for a label or a position of each room
 abbrev pub Short : List Room → (bytes labels positions : ℕ) → Type 0

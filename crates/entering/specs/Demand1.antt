@@ -11,9 +11,9 @@ use Rattle.drawing.specs.declared.Room.{Room}
 use Rattle.rooms.specs.LabelList.{recordOfRooms}
 use Rattle.rooms.specs.Causes.{RoomSize, Overlap, Uncovered, FourMeet, AcceptedRooms}
 use Rattle.rooms.specs.DecideCauses.{dec-room-size, dec-overlap, dec-uncovered, dec-four-meet}
-use Rattle.plans.specs.Answer.{Short, dec-short, roomsAnswer}
-use Rattle.plans.specs.declared.RoomsAnswer.{RoomsAnswer}
-use Rattle.plans.specs.declared.RoomsAnswer.the-variants.{Wrote, Refused}
+use Rattle.entering.specs.Answer.{Short, dec-short, roomsAnswer}
+use Rattle.entering.specs.declared.RoomsAnswer.{RoomsAnswer}
+use Rattle.entering.specs.declared.RoomsAnswer.the-variants.{Wrote, Refused}
 
 -- an answer with its cause, and without the causes that the order names before it
 pub data RoomsSays (rooms : List Room) (bytes labels positions : ℕ) : RoomsAnswer → Type 0 where

@@ -1,4 +1,4 @@
--- `plans::decide` meets its contract: the rooms stand in the four quarters of the array; each verdict is a refusal with its cause, and an
+-- `entering::decide` meets its contract: the rooms stand in the four quarters of the array; each verdict is a refusal with its cause, and an
 -- accepted list is written.
 use mathlib.Core.List.{List}
 use mathlib.Core.Path.{_≡_, sym, subst}
@@ -8,19 +8,19 @@ use Rattle.record.specs.Causes.{BadCount}
 use Rattle.drawing.specs.declared.Room.{Room}
 use Rattle.checks.specs.declared.Verdict.{Verdict}
 use Rattle.checks.specs.Verdict.{VerdictOf}
-use Rattle.plans.specs.Answer.{Slices, slices, RoomsIn}
-use Rattle.plans.specs.Copied.{copiedRooms}
-use Rattle.plans.specs.Demand1.{size, overlap, uncovered, four-meet}
-use Rattle.plans.specs.declared.RoomsAnswer.{RoomsAnswer}
-use Rattle.plans.proofs.Gathered.{lefts-size, one-length, partRooms, counted, parts-rooms}
-use Rattle.plans.proofs.Written.{refused}
+use Rattle.entering.specs.Answer.{Slices, slices, RoomsIn}
+use Rattle.entering.specs.Copied.{copiedRooms}
+use Rattle.entering.specs.Demand1.{size, overlap, uncovered, four-meet}
+use Rattle.entering.specs.declared.RoomsAnswer.{RoomsAnswer}
+use Rattle.entering.specs.Gathered.{lefts-size, one-length, partRooms, counted, parts-rooms}
+use Rattle.entering.specs.Written.{refused}
 use borrow.Author.Needs.{needs}
-use Rattle.plans.proofs.decide.Statement.{statement}
-use Rattle.plans.proofs.decide.Tie as tie
-use Rattle.plans.proofs.decide.Reads as reads
-use Rattle.plans.proofs.decide.Lts as lts
+use Rattle.entering.proofs.decide.Statement.{statement}
+use Rattle.entering.proofs.decide.Tie as tie
+use Rattle.entering.proofs.decide.Reads as reads
+use Rattle.entering.proofs.decide.Lts as lts
 use Rattle.checks.proofs.judge.Reads as judge-reads
-use Rattle.plans.proofs.write.Reads as write-reads
+use Rattle.entering.proofs.write.Reads as write-reads
 
 abbrev claims : lts.Claims
 claims = (judge-reads.Asked, judge-reads.Learnt, write-reads.Asked, write-reads.Learnt)

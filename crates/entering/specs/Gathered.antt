@@ -19,11 +19,11 @@ use Rattle.rooms.specs.Outline.{roomIn}
 use Rattle.rooms.specs.Corners.{cornersAt, roomsOf, length-rooms, OneLength}
 use Rattle.corners.specs.ListPlan.{roomsFrom}
 use Rattle.rooms.specs.LabelList.{recordOfRooms}
-use Rattle.plans.specs.Answer.{labelsOfRooms, positionsOfRooms, written, Slices, RoomsIn}
-use Rattle.plans.specs.Demand1.{count, demand1-rooms-answer}
-use Rattle.plans.specs.declared.RoomsAnswer.{RoomsAnswer}
-use Rattle.plans.specs.declared.RoomsAnswer.the-variants.{Refused}
-use Rattle.plans.specs.Copied.{stored, put, copiedAt, copiedRooms}
+use Rattle.entering.specs.Answer.{labelsOfRooms, positionsOfRooms, written, Slices, RoomsIn}
+use Rattle.entering.specs.Demand1.{count, demand1-rooms-answer}
+use Rattle.entering.specs.declared.RoomsAnswer.{RoomsAnswer}
+use Rattle.entering.specs.declared.RoomsAnswer.the-variants.{Refused}
+use Rattle.entering.specs.Copied.{stored, put, copiedAt, copiedRooms}
 
 -- ---- the places in use, quarter by quarter
 module _ (corners : List ℕ) (n : ℕ) (size : length corners ≡ 1020) (few : n ≤ 255) where
