@@ -12,7 +12,6 @@ use Rattle.drawing.specs.declared.Room.{Room}
 use Rattle.rooms.specs.LabelList.{roomAtPosition, labelOf, labelList}
 use Rattle.rooms.specs.Plan.{Floorplan}
 use Rattle.rooms.specs.PlanOf.{planOf, accepted→floorplan}
-use Rattle.rooms.specs.Demand3.{rooms-give-baxter}
 use Rattle.rooms.specs.Ranks.{positions-1-to-n, room-at-position, length-label-list, label-list-at}
 use Rattle.points.specs.Listed.{numberAt}
 use Rattle.orders.specs.Walks.{Walks}
@@ -65,9 +64,6 @@ walked→ranking w places order = record { places = places; one-to-n = w .ranked
 module _ {rooms : List Room} {n : ℕ} {labels by : List ℕ} (g : LabelsInOrder rooms n labels by) where
   k : Floorplan (planOf rooms)
   k = accepted→floorplan rooms (g .accepted)
-
-  pub at-most-255 : n ≤ 255
-  at-most-255 = omega (arith, g .count, rooms-give-baxter rooms (g .accepted) .few)
 
   -- the label at place q, as it is looked up
   label-at : (q : ℕ) → q < n → getD labels (getD by q 0) 0 ≡ getD (labelList rooms) q 0

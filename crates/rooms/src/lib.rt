@@ -1,4 +1,5 @@
-// Room lists: outline, causes, segments, the two orders, labels, records, and when two lists are equivalent, all of it in specs/; and the sides of the outline.
+// Room lists: outline, causes, segments, the two orders, labels, records, and when two lists are equivalent, all of it in specs/; and
+// the sides of the outline.
 ghost use mathlib.Core.Path.{_≡_};
 ghost use Prim.Native.Nat.{_<_, min, max};
 ghost use lib.ListN.{length, getD};
@@ -23,7 +24,8 @@ pub fn larger(a: u16, b: u16) -> u16
     a
 }
 
-// The smallest of the corners, which is a side of the outline where they are lefts or bottoms; and the largest, where they are rights or tops.
+// The smallest of the corners, which is a side of the outline where they are lefts or bottoms; and the largest, where they are rights
+// or tops.
 pub fn lowest(corner: &[u16]) -> u16
     requires { ⌜ 0 < length (now corner) ⌝ }
     ensures { λ r. ⌜ r ≡ least (λ i. getD (now (corner .entry)) i 0) (length (now (corner .entry))) ⌝ }
