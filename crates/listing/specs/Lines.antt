@@ -6,7 +6,7 @@ use native.Mathlib.Decide.{ℕ-discrete}
 use native.Mathlib.Omega.{arith}
 use native.Mathlib.Numerals.{add-one}
 use Rattle.drawing.specs.declared.Room.{Room}
-use Rattle.text.specs.Ascii.{ascii}
+use Rattle.digits.specs.Ascii.{ascii}
 use Rattle.text.specs.Form.{filled}
 use Rattle.text.specs.Put.{Put}
 use Rattle.text.specs.Puts.{put-none, put-more, put-as}

@@ -3,8 +3,8 @@
 use mathlib.Core.List.{List, [], _++_}
 use Prim.Native.Nat.{ℕ, zero, suc}
 use Rattle.drawing.specs.declared.Room.{Room}
-use Rattle.text.specs.Ascii.{ascii}
-use Rattle.text.specs.Decimal.{space, newline, field, wordLine}
+use Rattle.digits.specs.Ascii.{ascii}
+use Rattle.digits.specs.Decimal.{space, newline, field, wordLine}
 use Rattle.text.specs.View.{View, printed}
 
 -- "a header line, the word `rooms` and n"

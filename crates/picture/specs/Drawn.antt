@@ -11,7 +11,7 @@ use Rattle.drawing.specs.Drawing.{roomAt}
 use Rattle.drawing.specs.Squares.{covers-own, room-inside}
 use Rattle.drawing.specs.Corners.{roomIn}
 use Rattle.answers.specs.declared.RecordAnswer.the-variants.{Read}
-use Rattle.text.specs.Ascii.{ascii}
+use Rattle.digits.specs.Ascii.{ascii}
 use Rattle.text.specs.Put.{Put}
 use Rattle.text.specs.Puts.{put-none, put-more, put-as}
 use Rattle.text.specs.Viewed.{Local, Written, room-read}

@@ -7,8 +7,8 @@ use Rattle.record.specs.Walk.{walk, step}
 use Rattle.record.specs.Read.{labelsOf}
 use Rattle.record.specs.Checked.{dec-no-kind, dec-spare, dec-missing, dec-several}
 use Rattle.drawing.specs.Drawing.{lastBefore, firstLater}
-use Rattle.text.specs.Ascii.{ascii}
-use Rattle.text.specs.Decimal.{digitsIn, decimal}
+use Rattle.digits.specs.Ascii.{ascii}
+use Rattle.digits.specs.Decimal.{digitsIn, decimal}
 use Rattle.shapes.specs.Picture.{roomsDrawn, segmentsDrawn, pictureOf}
 
 pub worked-picture : pictureOf (0x05 ∷ 0x31 ∷ 0x70 ∷ [])

@@ -7,8 +7,8 @@ use Rattle.record.specs.Walk.{walk, step}
 use Rattle.record.specs.Read.{labelsOf}
 use Rattle.record.specs.Checked.{dec-no-kind, dec-spare, dec-missing, dec-several}
 use Rattle.drawing.specs.Drawing.{lastBefore, firstLater}
-use Rattle.text.specs.Ascii.{ascii}
-use Rattle.text.specs.Decimal.{digitsIn, decimal}
+use Rattle.digits.specs.Ascii.{ascii}
+use Rattle.digits.specs.Decimal.{digitsIn, decimal}
 use Rattle.listing.specs.Text.{linesOf, textOf}
 
 pub worked-listing : textOf (0x05 ∷ 0x31 ∷ 0x70 ∷ []) ≡ ascii "rooms 5\n1 4 0 0 3 1\n2 1 0 1 2 5\n3 3 2 1 3 4\n4 5 3 0 5 4\n5 2 2 4 5 5\n"

@@ -6,8 +6,8 @@ use Prim.Native.Nat.{ℕ, zero, suc, _+_, _*_, _-_, min}
 use Prim.Native.String.{String}
 use native.Mathlib.Decide.{decLt}
 use Rattle.drawing.specs.declared.Room.{Room}
-use Rattle.text.specs.Ascii.{ascii}
-use Rattle.text.specs.Decimal.{decimal}
+use Rattle.digits.specs.Ascii.{ascii}
+use Rattle.digits.specs.Decimal.{decimal}
 use Rattle.text.specs.View.{View, printed}
 
 -- ---- places

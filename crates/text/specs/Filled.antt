@@ -8,8 +8,8 @@ use native.Mathlib.Omega.{arith}
 use native.Mathlib.Numerals.{add-one}
 use lib.ListN.{length, getD, drop}
 use lib.Seq.{drop-cons, drop-length}
-use Rattle.text.specs.Decimal.{decimal}
-use Rattle.text.specs.Digits.{decimal-short}
+use Rattle.digits.specs.Decimal.{decimal}
+use Rattle.digits.specs.Digits.{decimal-short}
 use Rattle.text.specs.Form.{mark, filled}
 use Rattle.text.specs.Put.{Put}
 use Rattle.text.specs.Puts.{put-none, put-more, put-as}

@@ -3,7 +3,7 @@ use mathlib.Core.List.{List, [], _∷_, _++_}
 use mathlib.Core.Logic.{ite}
 use Prim.Native.Nat.{ℕ}
 use native.Mathlib.Decide.{ℕ-discrete}
-use Rattle.text.specs.Decimal.{decimal}
+use Rattle.digits.specs.Decimal.{decimal}
 
 -- `%`
 abbrev pub mark : ℕ

@@ -1,12 +1,9 @@
 -- Definitions
-pub mod Ascii
-pub mod Decimal
 pub mod Form
 pub mod Put
 pub mod View
 pub mod Places
 -- Laws
-pub mod Digits
 pub mod Puts
 pub mod Filled
 pub mod Viewed

@@ -9,8 +9,8 @@ use Rattle.record.specs.Checked.{checked}
 use Rattle.record.specs.Refusal.{numberOf}
 use Rattle.drawing.specs.Drawing.{roomAt}
 use Rattle.drawing.specs.declared.Room.{Room}
-use Rattle.text.specs.Ascii.{ascii}
-use Rattle.text.specs.Decimal.{wordLine}
+use Rattle.digits.specs.Ascii.{ascii}
+use Rattle.digits.specs.Decimal.{wordLine}
 
 -- "`refused` and the number on one line"
 abbrev pub refusedLine : ℕ → List ℕ

@@ -5,7 +5,7 @@ ghost use Prim.Native.Nat.{suc, _+_, _*_, _≤_, _<_};
 ghost use lib.ListN.{length};
 ghost use Rattle.record.specs.Refusal.{numberOf};
 ghost use Rattle.drawing.specs.Corners.{roomIn};
-ghost use Rattle.text.specs.Decimal.{decimal};
+ghost use Rattle.digits.specs.Decimal.{decimal};
 ghost use Rattle.text.specs.Form.{filled};
 ghost use Rattle.text.specs.Put.{Put};
 ghost use Rattle.text.specs.View.{refusedLine};

@@ -4,7 +4,7 @@ use native.Mathlib.Omega.{arith}
 use lib.ListN.{length}
 use borrow.Author.Needs.{needs}
 use Rattle.text.specs.Puts.{put-as, put-more}
-use Rattle.text.specs.Digits.{decimal-one, decimal-more, length-more}
+use Rattle.digits.specs.Digits.{decimal-one, decimal-more, length-more}
 use Prim.Native.Nat.{ℕ, _<_}
 use borrow.Fn.Kinds.{In}
 use borrow.Fn.PlainCycle.{Measures, is, falls, and}

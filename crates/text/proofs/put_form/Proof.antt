@@ -4,7 +4,7 @@ use Prim.Native.Nat.{_-_}
 use native.Mathlib.Omega.{arith}
 use lib.ListN.{length, getD}
 use borrow.Author.Needs.{needs}
-use Rattle.text.specs.Digits.{decimal-short}
+use Rattle.digits.specs.Digits.{decimal-short}
 use Rattle.text.specs.Filled.{Filling, none-filled, number-filled, byte-filled, mark-kept, all-filled}
 use Rattle.text.proofs.put_form.Statement.{statement}
 use Rattle.text.proofs.put_form.Tie as tie

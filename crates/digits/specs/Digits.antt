@@ -6,7 +6,7 @@ use Prim.Native.Nat.{ℕ, zero, suc, _+_, _*_, _/_, _%_, _^_, _≤_, _<_}
 use native.Mathlib.Decide.{decLt}
 use native.Mathlib.Omega.{arith}
 use lib.ListN.{length, length-append}
-use Rattle.text.specs.Decimal.{digit, digitsIn, decimal}
+use Rattle.digits.specs.Decimal.{digit, digitsIn, decimal}
 
 -- as many turns as the number says are enough
 turns-same : (one other number : ℕ) → number ≤ one → number ≤ other → digitsIn one number ≡ digitsIn other number
@@ -36,6 +36,17 @@ decimal-more (suc number) h =
     if-neg (decLt (suc number) 10) (λ small. omega arith) _ _
     ∙ ap (λ (l : List ℕ). l ++ (digit (suc number % 10) ∷ []))
     (turns-same number (suc number / 10) (suc number / 10) (omega arith) (omega arith))
+
+-- two and three of them
+pub decimal-two : (number : ℕ) → 10 ≤ number → number < 100 → decimal number ≡ digit (number / 10) ∷ digit (number % 10) ∷ []
+decimal-two number low high =
+    decimal-more number low ∙ ap (λ (l : List ℕ). l ++ (digit (number % 10) ∷ [])) (decimal-one (number / 10) (omega arith))
+
+pub decimal-three : (number : ℕ) → 100 ≤ number → number < 1000
+    → decimal number ≡ digit (number / 10 / 10) ∷ digit (number / 10 % 10) ∷ digit (number % 10) ∷ []
+decimal-three number low high =
+    decimal-more number (omega arith)
+    ∙ ap (λ (l : List ℕ). l ++ (digit (number % 10) ∷ [])) (decimal-two (number / 10) (omega arith) (omega arith))
 
 pub length-more : (number : ℕ) → 10 ≤ number → length (decimal number) ≡ length (decimal (number / 10)) + 1
 length-more number h = ap length (decimal-more number h) ∙ length-append (decimal (number / 10)) (digit (number % 10) ∷ [])
