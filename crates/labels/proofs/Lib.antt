@@ -3,3 +3,4 @@ pub mod Not
 pub mod Found
 pub mod Front
 pub mod Written
+pub mod Answered

@@ -1,4 +1,5 @@
-// Labels in: a label list becomes its record, or is refused with 1, 6, 7, 8 or 15, in this order.
+// Labels in: a label list becomes its record, or is refused with 1, 6, 7, 8 or 15, in this order. And the verdict on a label list
+// alone: 1, 6, 7, 8 or sound.
 ghost use mathlib.Core.List.{_∷_, _++_};
 ghost use mathlib.Core.Path.{_≡_};
 ghost use Prim.Native.Nat.{_+_, _≤_};
@@ -6,9 +7,16 @@ ghost use lib.ListN.{length, drop};
 ghost use Rattle.finite.specs.Decide.{Tells};
 ghost use Rattle.record.specs.Labels.{LabelOutside, LabelTwice};
 ghost use Rattle.record.specs.Answer.{LabelsIn};
+ghost use Rattle.labels.specs.Verdict.{verdictOf};
 use record::Label;
 use record::LabelsAnswer;
 use record::Refusal;
+
+// What the causes of a label list give: none of them holds, or the first one's refusal.
+pub enum Verdict {
+    Sound,
+    Refused(Refusal),
+}
 
 // Whether some label is not one of 1 to n. No early end: the whole list costs less than the tests.
 fn outside(labels: &[u8]) -> bool
@@ -93,4 +101,16 @@ pub fn labels_in(labels: &[u8], record: &mut [u8]) -> LabelsAnswer
     }
     write_record(n as u8, &body[..size], record);
     LabelsAnswer::Wrote(1 + size)
+}
+
+// The verdict on a label list, for calls that take labels in another form. The causes are looked for by Labels in and nowhere else:
+// its answer, with room for the longest record, tells the verdict.
+pub fn judge(labels: &[u8]) -> Verdict
+    ensures { λ r. ⌜ r ≡ verdictOf (now (labels .entry)) ⌝ }
+{
+    let mut record = [0u8; 97];
+    match labels_in(labels, &mut record) {
+        LabelsAnswer::Wrote(_) => Verdict::Sound,
+        LabelsAnswer::Refused(refusal) => Verdict::Refused(refusal),
+    }
 }

@@ -5,22 +5,18 @@ use mathlib.Core.Path.{_≡_}
 use Prim.Native.Nat.{ℕ}
 use native.Mathlib.Decide.{decLt}
 use lib.ListN.{length, drop}
-use Rattle.record.specs.Labels.{labelAt}
 use Rattle.record.specs.Record.{recordOf}
-use Rattle.record.specs.Causes.{dec-count, dec-outside, dec-twice, dec-barred}
-use Rattle.record.specs.declared.Refusal.the-variants.{Count, LabelOutside, LabelTwice, BarredPattern, ShortOutput}
+use Rattle.record.specs.Judged.{judged}
+use Rattle.record.specs.declared.Refusal.the-variants.{ShortOutput}
 use Rattle.record.specs.declared.LabelsAnswer.{LabelsAnswer}
 use Rattle.record.specs.declared.LabelsAnswer.the-variants.{Wrote, Refused}
 
 -- the answer for a label list and a record slice of so many bytes
 abbrev pub labelsAnswer : List ℕ → (capacity : ℕ) → LabelsAnswer
 labelsAnswer labels capacity =
-    ite (dec-count (length labels)) (Refused Count)
-    (ite (dec-outside labels) (Refused LabelOutside)
-    (ite (dec-twice labels) (Refused LabelTwice)
-    (ite (dec-barred (labelAt labels) (length labels)) (Refused BarredPattern)
+    judged Refused labels
     (ite (decLt capacity (length (recordOf labels))) (Refused ShortOutput)
-    (Wrote (length (recordOf labels)))))))
+    (Wrote (length (recordOf labels))))
 
 -- the record slice after an answer, where it held `before`: the record from the front and the rest untouched, or all as it was
 abbrev pub recordAfter : LabelsAnswer → (labels before : List ℕ) → List ℕ

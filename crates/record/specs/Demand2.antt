@@ -18,8 +18,8 @@ use Rattle.record.specs.Walk.{Accepted}
 use Rattle.record.specs.Record.{bodyLength, tripleBit, bodyBit, tripleIn, recordOf}
 use Rattle.record.specs.Answer.{labelsAnswer}
 use Rattle.record.specs.Demand1 as says
-use Rattle.record.specs.Demand1.{LabelsSays, wrote, demand1-labels-cause, demand1-labels-answer}
-use Rattle.record.specs.Causes.{BadCount}
+use Rattle.record.specs.Demand1.{LabelsSays, demand1-labels-cause, demand1-labels-answer}
+use Rattle.record.specs.Judged.{Sound}
 use Rattle.record.specs.Decode.{decode}
 use Rattle.record.specs.NextTo.{not-barred-next}
 use Rattle.record.specs.Forward.{accepted}
@@ -155,47 +155,44 @@ once-inside labels each (i, a, b, h) = elim h [ inl l ↦ omega (arith, each .ra
 pub once-single : (labels : List ℕ) → EachOnce (labelAt labels) (length labels) → ¬ LabelTwice labels
 once-single labels each (j, a, b, (i, c, d, e)) = omega (arith, each .once i j c (omega arith) a (omega arith) e)
 
--- a record that is written has none of the causes, and its length is the answer
-record Causeless (labels : List ℕ) (size : ℕ) : Type 0 where
-  count : ¬ BadCount (length labels)
-  outside : ¬ LabelOutside labels
-  twice : ¬ LabelTwice labels
-  barred : ¬ Barred (labelAt labels) (length labels)
-  is : size ≡ length (recordOf labels)
+-- so a list is sound exactly if it is Baxter and has 1 to 255 labels
+pub sound→baxter : (labels : List ℕ) → Sound labels → Baxter labels × (1 ≤ length labels) × (length labels ≤ 255)
+sound→baxter labels s =
+    let some : length labels ≢ 0 = λ z. s .count (inl z) in
+    let few : ¬ (255 < length labels) = λ z. s .count (inr z) in
+    (record { each-once = each-once labels (s .inside) (s .single); not-barred = s .free }, omega arith, omega arith)
 
-wrote-causes : (labels : List ℕ) (capacity : ℕ) {size : ℕ} → labelsAnswer labels capacity ≡ Wrote size → Causeless labels size
-wrote-causes labels capacity {size} e = go (demand1-labels-cause labels capacity) e
+pub baxter→sound : (labels : List ℕ) → Baxter labels → 1 ≤ length labels → length labels ≤ 255 → Sound labels
+baxter→sound labels b some few = record {
+  count = λ h. elim h [ inl z ↦ omega arith | inr z ↦ omega arith ];
+  inside = once-inside labels (b .each-once);
+  single = once-single labels (b .each-once);
+  free = b .not-barred;
+}
+
+-- a record that is written is that of a sound list, and its length is the answer
+wrote-sound : (labels : List ℕ) (capacity : ℕ) {size : ℕ} → labelsAnswer labels capacity ≡ Wrote size
+    → Sound labels × (size ≡ length (recordOf labels))
+wrote-sound labels capacity {size} e = go (demand1-labels-cause labels capacity) e
   where
-    never : {refusal : Refusal} → Refused refusal ≡ Wrote size → Causeless labels size
+    never : {refusal : Refusal} → Refused refusal ≡ Wrote size → Sound labels × (size ≡ length (recordOf labels))
     never e = absurd (let z : _≡_ {A = ℕ} 0 1 = cc in omega arith)
 
-    go : {a : LabelsAnswer} → LabelsSays labels capacity a → a ≡ Wrote size → Causeless labels size
-    go (says.count h) e = never e
-    go (says.outside b h) e = never e
-    go (says.twice b c h) e = never e
-    go (says.barred b c d h) e = never e
-    go (says.short b c d f h) e = never e
-    go (says.wrote b c d f h) e = record { count = b; outside = c; twice = d; barred = f; is = cc }
+    go : {a : LabelsAnswer} → LabelsSays labels capacity a → a ≡ Wrote size → Sound labels × (size ≡ length (recordOf labels))
+    go (says.refused cause) e = never e
+    go (says.short all s) e = never e
+    go (says.wrote all s) e = (all, cc)
 
 -- the length answered is at most 97
 pub wrote-at-most-97 : (labels : List ℕ) (capacity size : ℕ) → labelsAnswer labels capacity ≡ Wrote size → size ≤ 97
 wrote-at-most-97 labels capacity size e =
-    let w = wrote-causes labels capacity e in
-    let few : ¬ (255 < length labels) = λ z. w .count (inr z) in
-    omega (arith, w .is, record-at-most-97 labels (omega arith))
+    let w = wrote-sound labels capacity e in
+    omega (arith, w .1, record-at-most-97 labels (sound→baxter labels (w .0) .2))
 
 -- "Every Baxter permutation of 1 to 255 labels is accepted, given long enough output slices, and no other list is."
 pub demand2-accepts-baxter : (labels : List ℕ) (capacity : ℕ) → length (recordOf labels) ≤ capacity
     → (labelsAnswer labels capacity ≡ Wrote (length (recordOf labels))) ↔ (Baxter labels × (1 ≤ length labels) × (length labels ≤ 255))
-demand2-accepts-baxter labels capacity room = (to, from)
-  where
-    to : labelsAnswer labels capacity ≡ Wrote (length (recordOf labels)) → Baxter labels × (1 ≤ length labels) × (length labels ≤ 255)
-    to e =
-        let w = wrote-causes labels capacity e in
-        let some : length labels ≢ 0 = λ z. w .count (inl z) in
-        let few : ¬ (255 < length labels) = λ z. w .count (inr z) in
-        (record { each-once = each-once labels (w .outside) (w .twice); not-barred = w .barred }, omega arith, omega arith)
-
-    from : Baxter labels × (1 ≤ length labels) × (length labels ≤ 255) → labelsAnswer labels capacity ≡ Wrote (length (recordOf labels))
-    from (b, some, few) =
-        sym (demand1-labels-answer labels capacity (wrote (λ h. elim h [ inl z ↦ omega arith | inr z ↦ omega arith ]) (once-inside labels (b .each-once)) (once-single labels (b .each-once)) (b .not-barred) (λ h. omega arith)))
+demand2-accepts-baxter labels capacity room = (
+  λ e. sound→baxter labels (wrote-sound labels capacity e .0),
+  λ (b, some, few). sym (demand1-labels-answer labels capacity (says.wrote (baxter→sound labels b some few) (λ h. omega arith))),
+)

@@ -6,6 +6,7 @@ pub mod Walk
 pub mod Record
 pub mod Refusal
 pub mod Causes
+pub mod Judged
 pub mod Answer
 -- Theorems, and what they rest on
 pub mod Way

@@ -38,6 +38,7 @@ pub enum Refusal {
     ShortOutput,
     PositionOutside,
     SamePosition,
+    TextForm,
 }
 
 impl Refusal {
@@ -63,6 +64,7 @@ impl Refusal {
             Refusal::ShortOutput => 15,
             Refusal::PositionOutside => 16,
             Refusal::SamePosition => 17,
+            Refusal::TextForm => 18,
         }
     }
 }
