@@ -7,6 +7,8 @@ use Rattle.record.specs.Refusal.{numberOf}
 use Rattle.record.specs.declared.Refusal.{Refusal}
 use Rattle.record.specs.declared.LabelsAnswer.{LabelsAnswer}
 use Rattle.record.specs.declared.LabelsAnswer.the-variants.{Wrote, Refused}
+use Rattle.labeltext.specs.declared.TidyAnswer.{TidyAnswer}
+use Rattle.labeltext.specs.declared.TidyAnswer.the-variants as tidied
 use Rattle.drawing.specs.declared.Relation.{Relation}
 use Rattle.drawing.specs.declared.Relation.the-variants.{Left, Right, Above, Below}
 use Rattle.answers.specs.declared.RecordAnswer.{RecordAnswer}
@@ -34,6 +36,11 @@ roomsCode (roomsIn.Refused refusal) = refusalCode refusal
 abbrev pub labelsCode : LabelsAnswer → ℤ
 labelsCode (Wrote size) = pos size
 labelsCode (Refused refusal) = refusalCode refusal
+
+-- Tidy: the length of the tidy text
+abbrev pub tidyCode : TidyAnswer → ℤ
+tidyCode (tidied.Wrote size) = pos size
+tidyCode (tidied.Refused refusal) = refusalCode refusal
 
 -- Record in: the number of rooms
 abbrev pub recordCode : RecordAnswer → ℤ

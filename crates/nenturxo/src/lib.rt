@@ -2,16 +2,18 @@
 ghost use mathlib.Core.Path.{_≡_};
 ghost use Prim.Native.Nat.{_≤_};
 ghost use Rattle.record.specs.Answer.{LabelsIn};
+ghost use Rattle.labeltext.specs.Answer.{Tidied};
 ghost use Rattle.answers.specs.Answer.{slices, RecordIn};
 ghost use Rattle.questions.specs.Answer.{questionAnswer};
 ghost use Rattle.entering.specs.Answer.{slices as roomSlices, RoomsIn};
-ghost use Rattle.nenturxo.specs.Code.{Coded, refusalCode, roomsCode, labelsCode, recordCode};
+ghost use Rattle.nenturxo.specs.Code.{Coded, refusalCode, roomsCode, labelsCode, tidyCode, recordCode};
 ghost use Rattle.nenturxo.specs.Code.{relationNumber, relatedNumber, questionCode};
 ghost use Rattle.nenturxo.specs.Size.{AtMost97};
 use answers::RecordAnswer;
 use drawing::Relation;
 use drawing::Room;
 use entering::RoomsAnswer;
+use labeltext::TidyAnswer;
 use questions::QuestionAnswer;
 use record::LabelsAnswer;
 use record::Refusal;
@@ -61,6 +63,18 @@ pub extern "C" fn nenturxo_labels_in(labels: &[u8], record: &mut [u8]) -> i32
     match labels::labels_in(labels, record) {
         LabelsAnswer::Wrote(size) => size as i32,
         LabelsAnswer::Refused(refusal) => refused(refusal),
+    }
+}
+
+// Tidy: the length of the tidy text, written from the front of `tidy`, or the refusal's number negated, and nothing written.
+#[no_mangle]
+pub extern "C" fn nenturxo_tidy(text: &[u8], tidy: &mut [u8]) -> i32
+    ensures { λ r. ⌜ Coded tidyCode r
+        (λ answer. Tidied (now (text .entry)) (now (tidy .entry)) answer (now (tidy .exit))) ⌝ }
+{
+    match tidy::tidy(text, tidy) {
+        TidyAnswer::Wrote(size) => size as i32,
+        TidyAnswer::Refused(refusal) => refused(refusal),
     }
 }
 

@@ -1,0 +1,3 @@
+pub mod Filled
+pub mod Turns
+pub mod Passing

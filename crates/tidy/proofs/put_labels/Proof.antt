@@ -1,0 +1,84 @@
+-- `tidy::put_labels` meets its contract. Putting says what is put between two turns.
+use mathlib.Core.Path.{_≡_, _∙_}
+use Prim.Native.Nat.{_-_}
+use native.Mathlib.Omega.{arith}
+use lib.ListN.{length, length-set}
+use borrow.Author.Needs.{needs}
+use Rattle.labeltext.specs.Tidy.{tidyText}
+use Rattle.tidy.proofs.Fields.{Putting, put-size, none-put, label-put, fields-fit, fields-size, tidy-some, all-size, all-put}
+use Rattle.tidy.proofs.put_labels.Statement.{statement}
+use Rattle.tidy.proofs.put_labels.Tie as tie
+use Rattle.tidy.proofs.put_labels.Reads as reads
+use Rattle.tidy.proofs.put_labels.Lts as lts
+use Rattle.tidy.proofs.put_label.Reads as put-label-reads
+
+abbrev Inv-loop : tie.InvT-loop
+Inv-loop labels tidy₀ n at₀ k₀ tidy at k = Putting labels k tidy₀ tidy at
+
+abbrev μ-loop : tie.MeasureT-loop
+μ-loop labels tidy₀ n at₀ k₀ tidy at k = length labels - k
+
+loop-holds : tie.Need-loop-holds Inv-loop μ-loop
+loop-holds c = let s = c .before .before in none-put (s .args .labels .now) (s .args .tidy .now)
+
+shared-slice-read-put-label : tie.Need-shared-slice-read-put-label Inv-loop μ-loop
+shared-slice-read-put-label c = search needs
+
+put-label-requires : tie.Need-put-label-requires Inv-loop μ-loop
+put-label-requires c κs =
+    let l = c .before .before .before in
+    let s = l .before .before .before in
+    let a = s .args .labels .now in
+    let p = l .loop .inv in
+    omega (arith, p .next, put-size p, fields-fit a (l .loop .k) (c .before .before .loop-test .taken), fields-size a (s .pre .0), s .pre .1)
+
+add-k : tie.Need-add-k Inv-loop μ-loop
+add-k c = search needs
+
+loop-less : tie.Need-loop-less Inv-loop μ-loop
+loop-less c = search needs
+
+loop-again : tie.Need-loop-again Inv-loop μ-loop
+loop-again c =
+    let l = c .before .before .before .before .before .before in
+    label-put (l .loop .inv) (c .before .before .before .before .before .loop-test .taken) (c .before .before .put-label .ensures .0)
+    (c .before .before .put-label .ensures .1)
+
+-- where the text ends
+all : (c : lts.After-loop (put-label-reads.Asked, put-label-reads.Learnt) reads.Pre reads.Post Inv-loop μ-loop)
+    → c .before .loop .at ≡ length (tidyText (c .before .before .before .before .args .labels .now))
+all c = all-size (c .before .loop .inv) (c .before .before .before .before .pre .0) (omega (arith, c .loop-test .left))
+
+sub-tidy : tie.Need-sub-tidy Inv-loop μ-loop
+sub-tidy c = omega (arith, all c, tidy-some (c .before .before .before .before .args .labels .now))
+
+slice-write-tidy : tie.Need-slice-write-tidy Inv-loop μ-loop
+slice-write-tidy c =
+    let s = c .before .before .before .before in
+    omega (arith, all c, tidy-some (s .args .labels .now), put-size (c .before .loop .inv), s .pre .1)
+
+same-length : tie.Need-same-length Inv-loop μ-loop
+same-length c = length-set (c .before .loop .tidy) (c .before .loop .at - 1) 10 ∙ put-size (c .before .loop .inv)
+
+returns : tie.Need-returns Inv-loop μ-loop
+returns c =
+    let l = c .before in
+    let s = l .before .before .before in
+    all-put (l .loop .inv) (s .pre .0) (omega (arith, c .loop-test .left)) (s .pre .1)
+
+pub put-labels-spec : {M : Type 1} → statement M
+put-labels-spec =
+    tie.close
+    (tie.spec
+    Inv-loop
+    μ-loop
+    loop-holds
+    shared-slice-read-put-label
+    put-label-requires
+    add-k
+    loop-less
+    loop-again
+    sub-tidy
+    slice-write-tidy
+    same-length
+    returns)

@@ -1,0 +1,128 @@
+// Tidy: a text that lists labels becomes its tidy form, or is refused with 18, 1, 6, 7, 8 or 15, in this order.
+ghost use mathlib.Core.List.{_++_};
+ghost use mathlib.Core.Path.{_≡_};
+ghost use Prim.Native.Nat.{_+_, _≤_, _<_};
+ghost use lib.Dec.{ltb};
+ghost use lib.ListN.{length, drop};
+ghost use lib.Seq.{sets};
+ghost use Rattle.bits.specs.Bit.{bit};
+ghost use Rattle.digits.specs.Decimal.{space, field};
+ghost use Rattle.labeltext.specs.LineOf.{lineLength};
+ghost use Rattle.labeltext.specs.Tidy.{tidyText};
+ghost use Rattle.labeltext.specs.Answer.{Tidied};
+ghost use Rattle.tidy.specs.Labels.{TidiedLabels};
+use labels::Verdict;
+use labeltext::TidyAnswer;
+use numbers::Reading;
+use record::Refusal;
+
+// 1 where a label is above a number, else 0.
+fn above(label: u8, number: u8) -> usize
+    ensures { λ r. ⌜ (r ≡ bit (ltb number label)) × (r ≤ 1) ⌝ }
+{
+    if number < label { 1 } else { 0 }
+}
+
+// How many bytes a label takes, with the byte after it.
+fn field_size(label: u8) -> usize
+    ensures { λ r. ⌜ (r ≡ length (field label space)) × (r ≤ 4) ⌝ }
+{
+    2 + above(label, 9) + above(label, 99)
+}
+
+// The length of the tidy text of some labels.
+fn tidy_size(labels: &[u8]) -> usize
+    requires { ⌜ (1 ≤ length (now labels)) × (length (now labels) ≤ 255) ⌝ }
+    ensures { λ r. ⌜ r ≡ length (tidyText (now (labels .entry))) ⌝ }
+{
+    let n = labels.len();
+    let mut size = 0;
+    let mut k = 0;
+    while k < n {
+        size += field_size(labels[k]);
+        k += 1;
+    }
+    size
+}
+
+// Puts a label and a space after it where the text so far ends, and answers where it then ends. A digit that the label does not have is put
+// all the same, and the next one over it: that costs less than to foresee how many there are.
+fn put_label(text: &mut [u8], at: usize, label: u8) -> usize
+    requires { ⌜ at + length (field label space) ≤ length (now text) ⌝ }
+    ensures is { λ r. ⌜ now (text .exit) ≡ sets (now (text .entry)) at (field label space) ⌝ }
+    ensures next { λ r. ⌜ r ≡ at + length (field label space) ⌝ }
+{
+    text[at] = b'0' + label / 100;
+    let tens = at + above(label, 99);
+    text[tens] = b'0' + label / 10 % 10;
+    let ones = tens + above(label, 9);
+    text[ones] = b'0' + label % 10;
+    text[ones + 1] = b' ';
+    ones + 2
+}
+
+// Writes the tidy text of some labels from the front of a slice that has the room, and leaves the rest of it. The space after the last label
+// gives way to the newline.
+fn put_labels(labels: &[u8], tidy: &mut [u8])
+    requires { ⌜ (1 ≤ length (now labels)) × (length (tidyText (now labels)) ≤ length (now tidy)) ⌝ }
+    ensures { λ _. ⌜ now (tidy .exit)
+        ≡ tidyText (now (labels .entry)) ++ drop (length (tidyText (now (labels .entry)))) (now (tidy .entry)) ⌝ }
+{
+    let n = labels.len();
+    let mut at = 0;
+    let mut k = 0;
+    while k < n {
+        at = put_label(tidy, at, labels[k]);
+        k += 1;
+    }
+    tidy[at - 1] = b'\n';
+}
+
+// The tidy text of some labels, from the front of the output slice, and its length; or the refusal, and the slice as it was.
+fn tidy_labels(labels: &[u8], tidy: &mut [u8]) -> TidyAnswer
+    ensures { λ r. ⌜ TidiedLabels (now (labels .entry)) (now (tidy .entry)) r (now (tidy .exit)) ⌝ }
+{
+    let verdict = labels::judge(labels);
+    if let Verdict::Refused(refusal) = verdict {
+        return TidyAnswer::Refused(refusal);
+    }
+    let size = tidy_size(labels);
+    if tidy.len() < size {
+        return TidyAnswer::Refused(Refusal::ShortOutput);
+    }
+    put_labels(labels, tidy);
+    TidyAnswer::Wrote(size)
+}
+
+// The length of a text without the newline that may end it.
+fn line_length(text: &[u8]) -> usize
+    ensures { λ r. ⌜ (r ≡ lineLength (now (text .entry))) × (r ≤ length (now (text .entry))) ⌝ }
+{
+    let n = text.len();
+    if n == 0 {
+        return 0;
+    }
+    if text[n - 1] == b'\n' {
+        return n - 1;
+    }
+    n
+}
+
+// The tidy form of a text, from the front of the output slice, and its length; or the refusal, and the slice as it was.
+pub fn tidy(text: &[u8], tidy: &mut [u8]) -> TidyAnswer
+    ensures { λ r. ⌜ Tidied (now (text .entry)) (now (tidy .entry)) r (now (tidy .exit)) ⌝ }
+{
+    if 4096 < text.len() {
+        return TidyAnswer::Refused(Refusal::TextForm);
+    }
+    let n = line_length(text);
+    let mut list = [0u8; 256];
+    let reading = numbers::read(&text[..n], &mut list);
+    let Reading::Listed(count) = reading else {
+        return TidyAnswer::Refused(Refusal::TextForm);
+    };
+    if 255 < count {
+        return TidyAnswer::Refused(Refusal::Count);
+    }
+    tidy_labels(&list[..count], tidy)
+}
