@@ -1,227 +1,194 @@
--- A line of which the first i bytes are read: the loop's invariant, what a turn needs of it, and what it says at the end.
-use mathlib.Core.Bool.{Bool, true, false}
-use mathlib.Core.List.{List, [], _∷_, _++_}
-use mathlib.Core.Logic.{_≢_, inl, inr, if-pos, if-neg}
+-- A line of which the first i bytes are read: the loop's invariant, what a turn leaves, and what it says at the end.
+use mathlib.Core.List.{List, [], _∷_}
+use mathlib.Core.Logic.{_≢_, _⊎_, inl, inr}
 use mathlib.Core.Path.{_≡_, refl, sym, ap, subst, _∙_}
-use Prim.Native.Nat.{ℕ, suc, _+_, _*_, _-_, _%_, _≤_, _<_}
-use native.Mathlib.Decide.{decLt}
+use Prim.Native.Nat.{ℕ, suc, _+_, _≤_, _<_}
 use native.Mathlib.Numerals.{add-one}
 use native.Mathlib.Omega.{arith}
-use borrow.Author.Tests.{lt-ltb, le-ltb}
-use lib.Dec.{ltb}
-use lib.ListN.{length, getD, set, drop, length-append, length-set, List·getD-append, drop-of-length-le}
-use lib.Seq.{drop-cons, getD-at, getD-set-same, getD-set-other}
-use Rattle.finite.specs.Decide.{eq-or-ne}
-use Rattle.bits.specs.Bit.{bit}
+use lib.ListN.{length, getD, set, drop, length-set, List·getD-eq-default, drop-of-length-le}
+use lib.Seq.{drop-cons}
 use Rattle.labeltext.specs.Symbol.{symbolOf, symbol-is}
 use Rattle.labeltext.specs.Reader.{State, start, one, two, three, spaced, listed, broken, next, run, Done, numbersOf, broken-run}
-use Rattle.numbers.specs.Places.{placeOf, placeAfter, withinAt, endedAt, valueAfter}
-use Rattle.numbers.specs.Store.{asByte, Stores, ListedAs}
-use Rattle.numbers.proofs.Turns.{frontOf, valueOf, Fine, parts, row-next, place-small, Turn, grows, passes, breaks, turn}
+use Rattle.numbers.specs.Places.{placeOf, placeAfter, beginsAt, Standing, Reached}
+use Rattle.numbers.specs.Number.{asByte}
+use Rattle.numbers.specs.Store.{Starts, Labelled, Stores, ListedAs}
+use Rattle.numbers.proofs.Turns.{Fine, row-next, place-small, Turn, begins, grows, passes, breaks, turn}
+use Rattle.numbers.proofs.Begun.{Begun, none-begun, all-ended, Course, going, lost, turned}
 
--- ---- the store
--- the number that follows `front` is stored behind it
-stores-number : (front tail store : List ℕ) (v : ℕ) → Stores (front ++ tail) store → length tail ≤ 1
-    → Stores (front ++ (v ∷ [])) (set store (length front % 256) (asByte v))
-stores-number front tail store v st short = record {
-  long = length-set store (length front % 256) (asByte v) ∙ st .long;
-  kept = λ few k h.
-      let size : length (front ++ (v ∷ [])) ≡ length front + 1 = length-append front (v ∷ []) in
-      let all : length (front ++ tail) ≡ length front + length tail = length-append front tail in
-      let slot : length front % 256 ≡ length front = omega arith in
-      rw slot (elim (eq-or-ne k (length front)) [
-        | inl e ↦
-            rw e (getD-set-same store (length front) (asByte v) 0 (omega (arith, st .long))
-            ∙ ap asByte (sym (getD-at front v [] 0 (length front) refl)))
-        | inr ne ↦
-            getD-set-other store (length front) k (asByte v) 0 ne ∙ st .kept (omega arith) k (omega arith)
-            ∙ ap asByte (List·getD-append front tail 0 k (omega arith) ∙ sym (List·getD-append front (v ∷ []) 0 k (omega arith)))
-      ]);
+-- ---- places
+pub standing-small : {place : ℕ} → Standing place → place ≤ 48
+standing-small p = omega (arith, p .is, place-small (p .state))
+
+-- a reader comes on by one byte
+place-next : (b : ℕ) (s : State) {place after : ℕ} → after ≡ placeAfter place (symbolOf b) → place ≡ placeOf s
+    → after ≡ placeOf (next s (symbolOf b))
+place-next b s e is = e ∙ ap (λ (q : ℕ). placeAfter q (symbolOf b)) is ∙ row-next s (symbolOf b)
+
+pub standing-next : (b : ℕ) {place after : ℕ} → after ≡ placeAfter place (symbolOf b) → Standing place → Standing after
+standing-next b e p = record {
+  state = next (p .state) (symbolOf b);
+  is = place-next b (p .state) e (p .is);
 }
 
--- what is stored behind the numbers leaves them
-stores-behind : (numbers store : List ℕ) (x : ℕ) → Stores numbers store → Stores numbers (set store (length numbers % 256) x)
-stores-behind numbers store x st = record {
-  long = length-set store (length numbers % 256) x ∙ st .long;
-  kept = λ few k h.
-      let slot : length numbers % 256 ≡ length numbers = omega arith in
-      rw slot (getD-set-other store (length numbers) k x 0 (λ e. omega arith) ∙ st .kept few k h);
-}
+-- what is reached from the next byte on is reached from this one on
+pub reached-next : (line : List ℕ) (i place after end : ℕ) → i < length line → after ≡ placeAfter place (symbolOf (getD line i 0))
+    → Reached after (drop (i + 1) line) end → Reached place (drop i line) end
+unfolding run
+reached-next line i place after end h e r s is =
+    let y = symbolOf (getD line i 0) in
+    r (next s y) (place-next (getD line i 0) s e is)
+    ∙ ap (λ (l : List ℕ). placeOf (run (next s y) l)) (ap (λ (j : ℕ). drop j line) (add-one i))
+    ∙ ap (λ (l : List ℕ). placeOf (run s l)) (sym (drop-cons line i 0 h))
 
--- ---- where a reader stands
-bit-one : (b : Bool) → bit b ≤ 1
-bit-one true = omega arith
-bit-one false = omega arith
+pub reached-end : (line : List ℕ) (i place : ℕ) → length line ≤ i → Reached place (drop i line) place
+unfolding run
+reached-end line i place h s is = is ∙ ap (λ (l : List ℕ). placeOf (run s l)) (sym (drop-of-length-le line h))
 
-within-one : (place : ℕ) → withinAt place ≤ 1
-within-one place = bit-one (ltb place 32)
+-- where a line may end
+not-broken : (s : State) → placeOf s ≡ 0 → ¬ Done s
+not-broken start e d = omega arith
+not-broken (one front a) e d = omega arith
+not-broken (two front a b) e d = omega arith
+not-broken (three front a b c) e d = omega arith
+not-broken (spaced front) e d = omega arith
+not-broken (listed front) e d = omega arith
+not-broken broken e d = d
 
-pub record Holds (s : State) (place value count : ℕ) (store : List ℕ) : Type 0 where
-  pub fine : Fine s
-  pub place-is : place ≡ placeOf s
-  pub value-is : value ≡ valueOf s
-  pub count-is : count ≡ length (frontOf s)
-  pub stores : Stores (numbersOf s) store
+not-listed : (s : State) → placeOf s ≡ 48 → ¬ Done s
+not-listed start e d = omega arith
+not-listed (one front a) e d = omega arith
+not-listed (two front a b) e d = omega arith
+not-listed (three front a b c) e d = omega arith
+not-listed (spaced front) e d = omega arith
+not-listed (listed front) e d = d
+not-listed broken e d = d
 
--- what a byte leaves, where it does not break the form
-turned : {s t : State} {place value count b : ℕ} {store : List ℕ} → Holds s place value count store → Turn s b t
-    → {after m w : ℕ} → after ≡ placeOf t → after ≢ 0 → m ≡ count + endedAt place after → w ≡ valueAfter value after b
-    → Holds t after w m (set store (m % 256) (asByte w)) × (m ≤ count + 1)
-unfolding valueAfter
-turned h (breaks e) n going m-is w-is = absurd (going (n ∙ ap placeOf e))
-turned {s} {t} {place} {value} {count} {b} {store} h (grows d) {after} {m} {w} n going m-is w-is =
-    let p = parts s (h .fine) in
-    let digits : withinAt after ≡ 1 = rw (lt-ltb after 32 (omega (arith, d .place))) refl in
-    let same : m ≡ count = m-is ∙ rw digits (omega arith) in
-    let long : m ≡ length (frontOf s) = same ∙ h .count-is in
-    let is : w ≡ valueOf t =
-    w-is ∙ if-pos (decLt after 32) (omega (arith, d .place)) _ _ ∙ ap (λ (v : ℕ). 10 * v + (b - 48)) (h .value-is) ∙ sym (d .value) in
-    let stored =
-    stores-number (frontOf s) (p .tail) store (valueOf t) (rw (p .numbers) at (h .stores)) (omega (arith, p .size, within-one (placeOf s))) in (
-      record {
-        fine = d .fine;
-        place-is = n;
-        value-is = is;
-        count-is = long ∙ ap length (sym (d .front));
-        stores = rw (d .numbers, long, is) stored;
-      },
-      omega arith,
-    )
-turned {s} {t} {place} {value} {count} {b} {store} h (passes d) {after} {m} {w} n going m-is w-is =
-    let p = parts s (h .fine) in
-    let none : withinAt after ≡ 0 = rw (le-ltb after 32 (omega (arith, d .place))) refl in
-    let more : m ≡ count + withinAt (placeOf s) = m-is ∙ rw (none, h .place-is) (omega arith) in
-    let size : length (numbersOf s) ≡ length (frontOf s) + length (p .tail) = ap length (p .numbers) ∙ length-append (frontOf s) (p .tail) in
-    let long : m ≡ length (numbersOf s) = omega (arith, more, size, p .size, h .count-is) in
-    let is : w ≡ valueOf t = w-is ∙ if-neg (decLt after 32) (λ l. omega (arith, d .place)) _ _ ∙ sym (d .value) in (
-      record {
-        fine = d .fine;
-        place-is = n;
-        value-is = is;
-        count-is = long ∙ ap length (sym (d .front));
-        stores = rw (d .numbers, long) (stores-behind (numbersOf s) store (asByte w) (h .stores));
-      },
-      omega (arith, more, within-one (placeOf s)),
-    )
+done : (s : State) → placeOf s ≢ 0 → placeOf s ≢ 48 → Done s
+done start h k = tt
+done (one front a) h k = tt
+done (two front a b) h k = tt
+done (three front a b c) h k = tt
+done (spaced front) h k = tt
+done (listed front) h k = k refl
+done broken h k = h refl
+
+-- ---- numbers do not get fewer
+not-fewer : {s : State} {b : ℕ} {t : State} → Turn s b t → (Fine t × (length (numbersOf s) ≤ length (numbersOf t))) ⊎ (t ≡ broken)
+not-fewer (begins q) = inl (q .fine, omega (arith, q .one-more))
+not-fewer (grows q) = inl (q .fine, omega (arith, q .same))
+not-fewer (passes q) = inl (q .fine, omega (arith, ap length (q .numbers)))
+not-fewer (breaks e) = inr e
+
+numbers-grow : (bytes : List ℕ) (s : State) → Fine s → Done (run s bytes) → length (numbersOf s) ≤ length (numbersOf (run s bytes))
+unfolding run
+numbers-grow [] s f d = omega arith
+numbers-grow (b ∷ bytes) s f d = elim (not-fewer (turn b s (symbolOf b) (symbol-is b) f)) [
+  | inl g ↦ omega (arith, g .1, numbers-grow bytes (next s (symbolOf b)) (g .0) d)
+  | inr e ↦ absurd (broken-run bytes (subst (λ (u : State). Done (run u bytes)) e d))
+]
 
 -- ---- the loop's invariant
-pub record Passing (line : List ℕ) (i place value count : ℕ) (store : List ℕ) : Type 0 where
+pub record Passing (line : List ℕ) (i place count : ℕ) (starts : List ℕ) : Type 0 where
   pub state : State
   pub reaches : run start line ≡ run state (drop i line)
-  pub holds : Holds state place value count store
-  pub few : count ≤ i
+  pub place-is : place ≡ placeOf state
+  pub long : length starts ≡ 256
+  pub few : count ≤ 256
   pub within : i ≤ length line
+  pub course : Course line state i count starts
 
-pub passing-none : (line store : List ℕ) → length store ≡ 256 → Passing line 0 32 0 0 store
-passing-none line store long = record {
+pub passing-none : (line starts : List ℕ) → length starts ≡ 256 → Passing line 0 32 0 starts
+passing-none line starts long = record {
   state = start;
   reaches = refl;
-  holds = record {
-    fine = tt;
-    place-is = refl;
-    value-is = refl;
-    count-is = refl;
-    stores = record { long = long; kept = λ few k h. absurd (omega arith) };
-  };
+  place-is = refl;
+  long = long;
   few = omega arith;
   within = omega arith;
+  course = going (none-begun line starts);
 }
 
-place-broken : (s : State) → placeOf s ≡ 0 → s ≡ broken
-place-broken start e = absurd (omega arith)
-place-broken (one front a) e = absurd (omega arith)
-place-broken (two front a b) e = absurd (omega arith)
-place-broken (three front a b c) e = absurd (omega arith)
-place-broken (spaced front) e = absurd (omega arith)
-place-broken (listed front) e = absurd (omega arith)
-place-broken broken e = refl
+module _ {line : List ℕ} {i place count : ℕ} {starts : List ℕ} (p : Passing line i place count starts) where
+  pub passing-standing : Standing place
+  passing-standing = record { state = p .state; is = p .place-is }
 
--- where a line may end: not after a comma
-ends-here : (s : State) → Fine s → placeOf s ≢ 48 → Done s
-ends-here start f h = tt
-ends-here (one front a) f h = tt
-ends-here (two front a b) f h = tt
-ends-here (three front a b c) f h = tt
-ends-here (spaced front) f h = tt
-ends-here (listed front) f h = h refl
-ends-here broken f h = f
-
-comma-left : (s : State) → placeOf s ≡ 48 → ¬ Done s
-comma-left start e d = omega arith
-comma-left (one front a) e d = omega arith
-comma-left (two front a b) e d = omega arith
-comma-left (three front a b c) e d = omega arith
-comma-left (spaced front) e d = omega arith
-comma-left (listed front) e d = d
-comma-left broken e d = d
-
-module _ {line : List ℕ} {i place value count : ℕ} {store : List ℕ} (p : Passing line i place value count store) where
   -- ---- a turn
-  pub passing-place : place ≤ 48
-  passing-place = omega (arith, p .holds .place-is, place-small (p .state))
+  pub passing-turn : i < length line → count ≢ 256 → {after m : ℕ} → after ≡ placeAfter place (symbolOf (getD line i 0)) → m ≡ beginsAt after
+      → m ≤ 1 → Passing line (i + 1) after (count + m) (set starts count i)
+  unfolding run
+  passing-turn inside room {after} {m} leads m-is small =
+      record {
+        state = t;
+        reaches = rw (add-one i) (p .reaches ∙ ap (run (p .state)) (drop-cons line i 0 inside));
+        place-is = after-is;
+        long = length-set starts count i ∙ p .long;
+        few = omega (arith, p .few);
+        within = omega arith;
+        course = rw (m-is, after-is) (go (p .course));
+      }
+    where
+      t : State
+      t = next (p .state) (symbolOf (getD line i 0))
 
-  module _ (inside : i < length line) where
-    abbrev b : ℕ
-    b = getD line i 0
+      after-is : after ≡ placeOf (next (p .state) (symbolOf (getD line i 0)))
+      after-is = place-next (getD line i 0) (p .state) leads (p .place-is)
 
-    abbrev t : State
-    t = next (p .state) (symbolOf b)
+      go : Course line (p .state) i count starts
+          → Course line (next (p .state) (symbolOf (getD line i 0))) (i + 1) (count + beginsAt (placeOf (next (p .state) (symbolOf (getD line i 0))))) (set starts count i)
+      go (going q) =
+          let y = symbolOf (getD line i 0) in
+          turned q (omega (arith, p .long, p .few)) (next (p .state) y) (turn (getD line i 0) (p .state) y (symbol-is (getD line i 0)) (q .fine))
+      go (lost e) = lost (ap (λ (s : State). next s (symbolOf (getD line i 0))) e)
 
-    reaches-next : run start line ≡ run t (drop (suc i) line)
-    unfolding run
-    reaches-next = p .reaches ∙ ap (run (p .state)) (drop-cons line i 0 inside)
+  -- ---- after it
+  module _ {end : ℕ} (reached : Reached place (drop i line) end) where
+    end-is : end ≡ placeOf (run start line)
+    end-is = reached (p .state) (p .place-is) ∙ ap placeOf (sym (p .reaches))
 
-    turns : Turn (p .state) b t
-    turns = turn b (p .state) (p .holds .fine) (symbolOf b) (symbol-is b)
+    pub passing-broken : end ≡ 0 → ¬ Done (run start line)
+    passing-broken e = not-broken (run start line) (sym end-is ∙ e)
 
-    module _ {after : ℕ} (leads : after ≡ placeAfter place (symbolOf b)) where
-      after-is : after ≡ placeOf t
-      after-is = leads ∙ ap (λ (q : ℕ). placeAfter q (symbolOf b)) (p .holds .place-is) ∙ row-next (p .state) (symbolOf b)
+    pub passing-comma : end ≡ 48 → ¬ Done (run start line)
+    passing-comma e = not-listed (run start line) (sym end-is ∙ e)
 
-      -- the form is broken
-      pub passing-broken : after ≡ 0 → ¬ Done (run start line)
-      passing-broken zero d =
-          broken-run (drop (suc i) line)
-          (subst Done (reaches-next ∙ ap (λ (s : State). run s (drop (suc i) line)) (place-broken t (sym after-is ∙ zero))) d)
+    module _ (fine : end ≢ 0) (full : end ≢ 48) where
+      passing-done : Done (run start line)
+      passing-done = done (run start line) (λ z. fine (end-is ∙ z)) (λ z. full (end-is ∙ z))
 
-      -- what a turn needs
-      pub passing-digit : after ≢ 0 → after < 32 → (48 ≤ b) × (value ≤ 99)
-      passing-digit going l = go turns
+      pub passing-many : 255 < count → Done (run start line) × (255 < length (numbersOf (run start line)))
+      passing-many many = (passing-done, go (p .course))
         where
-          go : Turn (p .state) b t → (48 ≤ b) × (value ≤ 99)
-          go (grows d) = (d .byte, omega (arith, d .before, p .holds .value-is))
-          go (passes d) = absurd (omega (arith, d .place, after-is))
-          go (breaks e) = absurd (going (after-is ∙ ap placeOf e))
+          go : Course line (p .state) i count starts → 255 < length (numbersOf (run start line))
+          go (going q) =
+              let d : Done (run (p .state) (drop i line)) = subst Done (p .reaches) passing-done in
+              omega (arith, q .count-is, numbers-grow (drop i line) (p .state) (q .fine) d, ap (λ (s : State). length (numbersOf s)) (p .reaches))
+          go (lost e) = absurd (broken-run (drop i line) (subst Done (p .reaches ∙ ap (λ (s : State). run s (drop i line)) e) passing-done))
 
-      -- and what it leaves
-      pub passing-turn : after ≢ 0 → {m w byte : ℕ} → m ≡ count + endedAt place after → w ≡ valueAfter value after b → byte ≡ asByte w
-          → Passing line (i + 1) after w m (set store (m % 256) byte)
-      passing-turn going {m} {w} {byte} m-is w-is byte-is =
-          let (holds, more) = turned (p .holds) turns after-is going m-is w-is in
-          record {
-            state = t;
-            reaches = rw (add-one i) reaches-next;
-            holds = rw byte-is holds;
-            few = omega (arith, p .few);
-            within = omega arith;
-          }
+      -- all of the line is read
+      module _ (all : length line ≤ i) (few : count ≤ 255) where
+        read-state : run start line ≡ p .state
+        unfolding run
+        read-state = p .reaches ∙ ap (run (p .state)) (drop-of-length-le line all)
 
-  -- ---- at the end
-  module _ (all : length line ≤ i) where
-    ends : run start line ≡ p .state
-    unfolding run
-    ends = p .reaches ∙ ap (run (p .state)) (drop-of-length-le line all)
+        begun : Begun line (run start line) i count starts
+        begun = go (p .course)
+          where
+            go : Course line (p .state) i count starts → Begun line (run start line) i count starts
+            go (going q) = subst (λ (s : State). Begun line s i count starts) (sym read-state) q
+            go (lost e) = absurd (subst Done (read-state ∙ e) passing-done)
 
-    pub passing-left : place ≡ 48 → ¬ Done (run start line)
-    passing-left e d = comma-left (p .state) (sym (p .holds .place-is) ∙ e) (subst Done ends d)
+        pub passing-starts : length line ≤ 4096 → Starts line starts count
+        passing-starts short = record { short = short; few = few; long = p .long; within = λ k h. omega (arith, begun .inside k h, p .within) }
 
-    pub passing-done : place ≢ 48 → {total : ℕ} → total ≡ count + withinAt place → ListedAs total line store
-    passing-done e is =
-        let q = parts (p .state) (p .holds .fine) in
-        let digits : withinAt place ≡ withinAt (placeOf (p .state)) = ap withinAt (p .holds .place-is) in
-        let size = ap length (q .numbers) ∙ length-append (frontOf (p .state)) (q .tail) in
-        record {
-          done = subst Done (sym ends) (ends-here (p .state) (p .holds .fine) (λ z. e (p .holds .place-is ∙ z)));
-          count-is = omega (arith, is, digits, size, q .size, p .holds .count-is) ∙ ap (λ (s : State). length (numbersOf s)) (sym ends);
-          stores = subst (λ (s : State). Stores (numbersOf s) store) (sym ends) (p .holds .stores);
+        pub passing-listed : {list : List ℕ} → Labelled line starts count list → ListedAs count line list
+        passing-listed l = record {
+          done = passing-done;
+          count-is = begun .count-is;
+          few = few;
+          stores = record {
+            long = l .long;
+            kept = λ k h.
+                let behind : getD line i 0 ≡ 0 = List·getD-eq-default line 0 all in
+                l .labels k (omega (arith, begun .count-is)) ∙ ap asByte (all-ended begun (omega arith) k h);
+          };
         }

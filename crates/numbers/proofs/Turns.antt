@@ -1,14 +1,14 @@
 -- One byte of a line: what it leaves of the numbers, by where the reader stood.
-use mathlib.Core.List.{List, [], _∷_, _++_, append-nil}
+use mathlib.Core.List.{List, [], _∷_, _++_}
 use mathlib.Core.Path.{_≡_, refl, sym, ap, _∙_}
 use Prim.Native.Nat.{ℕ, _+_, _*_, _-_, _≤_, _<_}
 use native.Mathlib.Omega.{arith}
 use lib.ListN.{length, length-append}
 use Rattle.labeltext.specs.Symbol.{Symbol, digit, space, comma, other, Is}
 use Rattle.labeltext.specs.Reader.{State, start, one, two, three, spaced, listed, broken, next, numbersOf}
-use Rattle.numbers.specs.Places.{placeOf, placeAfter, withinAt}
+use Rattle.numbers.specs.Places.{placeOf, placeAfter, beginsAt}
 
--- ---- a reader's numbers: those that have ended, and the one that its digits so far give
+-- ---- a reader's numbers: those that have ended, and the digits of the one that it is in
 abbrev pub frontOf : State → List ℕ
 frontOf start = []
 frontOf (one front a) = front
@@ -18,14 +18,14 @@ frontOf (spaced front) = front
 frontOf (listed front) = front
 frontOf broken = []
 
-abbrev pub valueOf : State → ℕ
-valueOf start = 0
-valueOf (one front a) = a
-valueOf (two front a b) = 10 * a + b
-valueOf (three front a b c) = 100 * a + 10 * b + c
-valueOf (spaced front) = 0
-valueOf (listed front) = 0
-valueOf broken = 0
+abbrev pub wordOf : State → List ℕ
+wordOf start = []
+wordOf (one front a) = a ∷ []
+wordOf (two front a b) = a ∷ b ∷ []
+wordOf (three front a b c) = a ∷ b ∷ c ∷ []
+wordOf (spaced front) = []
+wordOf (listed front) = []
+wordOf broken = []
 
 -- a reader that the form has not broken for, with digits below 10
 abbrev pub Fine : State → Type 0
@@ -36,21 +36,6 @@ Fine (three front a b c) = (a < 10) × (b < 10) × (c < 10)
 Fine (spaced front) = Unit
 Fine (listed front) = Unit
 Fine broken = ⊥
-
--- the numbers in two parts, of which the second has one number or none
-pub record Parts (s : State) : Type 0 where
-  pub tail : List ℕ
-  pub numbers : numbersOf s ≡ frontOf s ++ tail
-  pub size : length tail ≡ withinAt (placeOf s)
-
-pub parts : (s : State) → Fine s → Parts s
-parts start f = record { tail = []; numbers = refl; size = refl }
-parts (one front a) f = record { tail = a ∷ []; numbers = refl; size = refl }
-parts (two front a b) f = record { tail = (10 * a + b) ∷ []; numbers = refl; size = refl }
-parts (three front a b c) f = record { tail = (100 * a + 10 * b + c) ∷ []; numbers = refl; size = refl }
-parts (spaced front) f = record { tail = []; numbers = sym (append-nil front); size = refl }
-parts (listed front) f = record { tail = []; numbers = sym (append-nil front); size = refl }
-parts broken f = absurd f
 
 -- ---- places
 pub row-next : (s : State) (y : Symbol) → placeAfter (placeOf s) y ≡ placeOf (next s y)
@@ -93,92 +78,105 @@ place-small (listed front) = omega arith
 place-small broken = omega arith
 
 -- ---- a byte
--- one digit more
-pub record Digit (s : State) (b : ℕ) (t : State) : Type 0 where
-  pub place : placeOf t < 32
-  pub byte : 48 ≤ b
-  pub before : valueOf s ≤ 99
-  pub value : valueOf t ≡ 10 * valueOf s + (b - 48)
+-- the first digit of a number
+pub record First (s : State) (b : ℕ) (t : State) : Type 0 where
+  pub digit : b ≡ 48 + (b - 48)
+  pub word : wordOf t ≡ (b - 48) ∷ []
   pub front : frontOf t ≡ frontOf s
-  pub numbers : numbersOf t ≡ frontOf s ++ (valueOf t ∷ [])
+  pub all : length (numbersOf s) ≡ length (frontOf s)
+  pub one-more : length (numbersOf t) ≡ length (numbersOf s) + 1
+  pub begins : beginsAt (placeOf t) ≡ 1
+  pub fine : Fine t
+
+-- one digit more
+pub record More (s : State) (b : ℕ) (t : State) : Type 0 where
+  pub digit : b ≡ 48 + (b - 48)
+  pub some : 1 ≤ length (wordOf s)
+  pub word : wordOf t ≡ wordOf s ++ ((b - 48) ∷ [])
+  pub front : frontOf t ≡ frontOf s
+  pub all : length (numbersOf s) ≡ length (frontOf s) + 1
+  pub same : length (numbersOf t) ≡ length (numbersOf s)
+  pub none : beginsAt (placeOf t) ≡ 0
   pub fine : Fine t
 
 -- no digit: the number has ended, if there was one
-pub record Past (s t : State) : Type 0 where
-  pub place : 32 ≤ placeOf t
-  pub value : valueOf t ≡ 0
+pub record Past (s : State) (b : ℕ) (t : State) : Type 0 where
+  pub low : b ≤ 47
+  pub word : wordOf t ≡ []
   pub front : frontOf t ≡ numbersOf s
   pub numbers : numbersOf t ≡ numbersOf s
+  pub none : beginsAt (placeOf t) ≡ 0
   pub fine : Fine t
 
 pub data Turn (s : State) (b : ℕ) (t : State) : Type 0 where
-  grows : Digit s b t → Turn s b t
-  passes : Past s t → Turn s b t
+  begins : First s b t → Turn s b t
+  grows : More s b t → Turn s b t
+  passes : Past s b t → Turn s b t
   breaks : t ≡ broken → Turn s b t
 
-pub turn : (b : ℕ) (s : State) → Fine s → (y : Symbol) → Is b y → Turn s b (next s y)
-turn b start f (digit d) (small, e) = grows (record {
-  place = omega arith;
-  byte = omega arith;
-  before = omega arith;
-  value = omega arith;
-  front = refl;
-  numbers = refl;
-  fine = small;
-})
-turn b start f space e = passes (record { place = omega arith; value = refl; front = refl; numbers = refl; fine = tt })
-turn b start f comma e = breaks refl
-turn b start f other e = breaks refl
-turn b (one front a) f (digit d) (small, e) = grows (record {
-  place = omega arith;
-  byte = omega arith;
-  before = omega arith;
-  value = omega arith;
-  front = refl;
-  numbers = refl;
-  fine = (f, small);
-})
-turn b (one front a) f space e = passes (record { place = omega arith; value = refl; front = refl; numbers = refl; fine = tt })
-turn b (one front a) f comma e = passes (record { place = omega arith; value = refl; front = refl; numbers = refl; fine = tt })
-turn b (one front a) f other e = breaks refl
-turn b (two front a c) (f, g) (digit d) (small, e) = grows (record {
-  place = omega arith;
-  byte = omega arith;
-  before = omega arith;
-  value = omega arith;
-  front = refl;
-  numbers = refl;
-  fine = (f, g, small);
-})
-turn b (two front a c) f space e = passes (record { place = omega arith; value = refl; front = refl; numbers = refl; fine = tt })
-turn b (two front a c) f comma e = passes (record { place = omega arith; value = refl; front = refl; numbers = refl; fine = tt })
-turn b (two front a c) f other e = breaks refl
-turn b (three front a c d) f (digit x) e = breaks refl
-turn b (three front a c d) f space e = passes (record { place = omega arith; value = refl; front = refl; numbers = refl; fine = tt })
-turn b (three front a c d) f comma e = passes (record { place = omega arith; value = refl; front = refl; numbers = refl; fine = tt })
-turn b (three front a c d) f other e = breaks refl
-turn b (spaced front) f (digit d) (small, e) = grows (record {
-  place = omega arith;
-  byte = omega arith;
-  before = omega arith;
-  value = omega arith;
-  front = refl;
-  numbers = refl;
-  fine = small;
-})
-turn b (spaced front) f space e = passes (record { place = omega arith; value = refl; front = refl; numbers = refl; fine = tt })
-turn b (spaced front) f comma e = passes (record { place = omega arith; value = refl; front = refl; numbers = refl; fine = tt })
-turn b (spaced front) f other e = breaks refl
-turn b (listed front) f (digit d) (small, e) = grows (record {
-  place = omega arith;
-  byte = omega arith;
-  before = omega arith;
-  value = omega arith;
-  front = refl;
-  numbers = refl;
-  fine = small;
-})
-turn b (listed front) f space e = passes (record { place = omega arith; value = refl; front = refl; numbers = refl; fine = tt })
-turn b (listed front) f comma e = breaks refl
-turn b (listed front) f other e = breaks refl
-turn b broken f y e = absurd f
+begin : (b : ℕ) {d : ℕ} → d < 10 → b ≡ 48 + d → {s : State} (front : List ℕ) → frontOf s ≡ front → numbersOf s ≡ front
+    → Turn s b (one front d)
+begin b {d} small e {s} front f n =
+    let value : d ≡ b - 48 = omega arith in
+    begins (record {
+      digit = omega arith;
+      word = λ i. value i ∷ [];
+      front = sym f;
+      all = ap length n ∙ sym (ap length f);
+      one-more = length-append front (d ∷ []) ∙ ap (λ (l : List ℕ). length l + 1) (sym n);
+      begins = refl;
+      fine = small;
+    })
+
+pass : (b : ℕ) {s t : State} → b ≤ 47 → wordOf t ≡ [] → frontOf t ≡ numbersOf s → numbersOf t ≡ numbersOf s → beginsAt (placeOf t) ≡ 0 → Fine t
+    → Turn s b t
+pass b low w f n z g = passes (record { low = low; word = w; front = f; numbers = n; none = z; fine = g })
+
+pub turn : (b : ℕ) (s : State) (y : Symbol) → Is b y → Fine s → Turn s b (next s y)
+turn b start (digit d) (small, e) f = begin b small e [] refl refl
+turn b start space e f = pass b (omega arith) refl refl refl refl tt
+turn b start comma e f = breaks refl
+turn b start other e f = breaks refl
+turn b (one front a) (digit d) (small, e) f =
+    let value : d ≡ b - 48 = omega arith in
+    grows (record {
+      digit = omega arith;
+      some = omega arith;
+      word = λ i. a ∷ value i ∷ [];
+      front = refl;
+      all = length-append front (a ∷ []);
+      same = length-append front ((10 * a + d) ∷ []) ∙ sym (length-append front (a ∷ []));
+      none = refl;
+      fine = (f, small);
+    })
+turn b (one front a) space e f = pass b (omega arith) refl refl refl refl tt
+turn b (one front a) comma e f = pass b (omega arith) refl refl refl refl tt
+turn b (one front a) other e f = breaks refl
+turn b (two front a c) (digit d) (small, e) f =
+    let value : d ≡ b - 48 = omega arith in
+    grows (record {
+      digit = omega arith;
+      some = omega arith;
+      word = λ i. a ∷ c ∷ value i ∷ [];
+      front = refl;
+      all = length-append front ((10 * a + c) ∷ []);
+      same = length-append front ((100 * a + 10 * c + d) ∷ []) ∙ sym (length-append front ((10 * a + c) ∷ []));
+      none = refl;
+      fine = (f .0, f .1, small);
+    })
+turn b (two front a c) space e f = pass b (omega arith) refl refl refl refl tt
+turn b (two front a c) comma e f = pass b (omega arith) refl refl refl refl tt
+turn b (two front a c) other e f = breaks refl
+turn b (three front a c d) (digit x) e f = breaks refl
+turn b (three front a c d) space e f = pass b (omega arith) refl refl refl refl tt
+turn b (three front a c d) comma e f = pass b (omega arith) refl refl refl refl tt
+turn b (three front a c d) other e f = breaks refl
+turn b (spaced front) (digit d) (small, e) f = begin b small e front refl refl
+turn b (spaced front) space e f = pass b (omega arith) refl refl refl refl tt
+turn b (spaced front) comma e f = pass b (omega arith) refl refl refl refl tt
+turn b (spaced front) other e f = breaks refl
+turn b (listed front) (digit d) (small, e) f = begin b small e front refl refl
+turn b (listed front) space e f = pass b (omega arith) refl refl refl refl tt
+turn b (listed front) comma e f = breaks refl
+turn b (listed front) other e f = breaks refl
+turn b broken y e f = absurd f

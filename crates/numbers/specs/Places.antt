@@ -1,14 +1,12 @@
 -- The places of a reader as numbers, and the rows of the places that follow them.
 use mathlib.Core.List.{List}
-use mathlib.Core.Logic.{ite}
 use mathlib.Core.Path.{_≡_}
-use Prim.Native.Nat.{ℕ, _+_, _*_, _-_, _/_, _%_, _^_, _<_}
-use native.Mathlib.Decide.{decLt}
+use Prim.Native.Nat.{ℕ, _/_, _%_, _^_, _<_}
 use lib.Dec.{ltb}
 use lib.ListN.{length, getD}
 use Rattle.bits.specs.Bit.{bit}
 use Rattle.labeltext.specs.Symbol.{Symbol, digit, space, comma, other, symbolOf}
-use Rattle.labeltext.specs.Reader.{State, start, one, two, three, spaced, listed, broken}
+use Rattle.labeltext.specs.Reader.{State, start, one, two, three, spaced, listed, broken, run}
 
 abbrev pub placeOf : State → ℕ
 placeOf broken = 0
@@ -34,15 +32,15 @@ pub record Rows (rows : List ℕ) : Type 0 where
   pub long : length rows ≡ 256
   pub row : (b : ℕ) → b < 256 → getD rows b 0 ≡ rowOf (symbolOf b)
 
--- 1 where the place is within the digits of a number, else 0
-abbrev pub withinAt : (place : ℕ) → ℕ
-withinAt place = bit (ltb place 32)
+-- 1 where a number begins with the byte that leads to this place, or the form is broken; else 0
+abbrev pub beginsAt : (place : ℕ) → ℕ
+beginsAt place = bit (ltb place 16)
 
--- 1 where a number has ended, between two places that follow one another
-abbrev pub endedAt : (before place : ℕ) → ℕ
-endedAt before place = withinAt before * (1 - withinAt place)
+-- a reader stands at this place
+pub record Standing (place : ℕ) : Type 0 where
+  pub state : State
+  pub is : place ≡ placeOf state
 
--- the number after a byte that leads to this place: one digit more, or none
-unfoldable pub valueAfter : (value place byte : ℕ) → ℕ
-unfolding decLt
-valueAfter value place byte = ite (decLt place 32) (10 * value + (byte - 48)) 0
+-- each reader that stands at the place `before` comes through the bytes to the place `after`
+abbrev pub Reached : (before : ℕ) (bytes : List ℕ) (after : ℕ) → Type 0
+Reached before bytes after = (s : State) → before ≡ placeOf s → after ≡ placeOf (run s bytes)

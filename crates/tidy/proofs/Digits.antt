@@ -11,6 +11,7 @@ use lib.Seq.{set-set, sets}
 use Rattle.bits.specs.Bit.{bit}
 use Rattle.digits.specs.Decimal.{space, digit, decimal, field}
 use Rattle.digits.specs.Digits.{decimal-one, decimal-two, decimal-three}
+use Rattle.tidy.specs.Digits.{DigitsOf}
 
 module _ (label : ℕ) where
   -- how many tens and hundreds digits there are: 1 or 0
@@ -55,25 +56,20 @@ module _ (label : ℕ) where
     abbrev put : ℕ → ℕ → ℕ → ℕ → ℕ → ℕ → List ℕ
     put i j k x y z = set (set (set (set text at x) i y) j z) k space
 
-    pub digits-put : label < 1000 → (i j k : ℕ) → i ≡ at + hundreds → j ≡ i + tens → k ≡ j + 1
-        → put i j k (48 + label / 100) (48 + label / 10 % 10) (48 + label % 10) ≡ sets text at (field label space)
-    digits-put h i j k second third last = go (digits h)
+    pub digits-put : label < 1000 → {x y z : ℕ} → DigitsOf label x y z
+        → (i j k : ℕ) → i ≡ at + hundreds → j ≡ i + tens → k ≡ j + 1
+        → put i j k x y z ≡ sets text at (field label space)
+    digits-put h {x} {y} {z} is i j k second third last = go (digits h)
       where
-        x : ℕ
-        x = 48 + label / 100
-
-        y : ℕ
-        y = 48 + label / 10 % 10
-
         whole : (word : List ℕ) → decimal label ≡ word → sets text at (field label space) ≡ sets text at (word ++ (space ∷ []))
         whole word e = ap (λ (w : List ℕ). sets text at (w ++ (space ∷ []))) e
 
-        go : Digits → put i j k (48 + label / 100) (48 + label / 10 % 10) (48 + label % 10) ≡ sets text at (field label space)
+        go : Digits → put i j k x y z ≡ sets text at (field label space)
         go (one low t u e) =
             let a : i ≡ at = omega arith in
             let b : j ≡ at = omega arith in
             let c : k ≡ suc at = omega arith in
-            let d : 48 + label % 10 ≡ digit label = omega arith in
+            let d : z ≡ digit label = omega (arith, is .third) in
             (λ m. put (a m) (b m) (c m) x y (d m))
             ∙ ap (λ (l : List ℕ). set (set l at (digit label)) (suc at) space) (set-set text at x y)
             ∙ ap (λ (l : List ℕ). set l (suc at) space) (set-set text at y (digit label))
@@ -82,14 +78,14 @@ module _ (label : ℕ) where
             let a : i ≡ at = omega arith in
             let b : j ≡ suc at = omega arith in
             let c : k ≡ suc (suc at) = omega arith in
-            let d : 48 + label / 10 % 10 ≡ digit (label / 10) = omega arith in
-            (λ m. put (a m) (b m) (c m) x (d m) (48 + label % 10))
+            let d : y ≡ digit (label / 10) = omega (arith, is .second) in
+            (λ m. put (a m) (b m) (c m) x (d m) (is .third m))
             ∙ ap (λ (l : List ℕ). set (set l (suc at) (digit (label % 10))) (suc (suc at)) space) (set-set text at x (digit (label / 10)))
             ∙ sym (whole (digit (label / 10) ∷ digit (label % 10) ∷ []) e)
         go (three t u e) =
             let a : i ≡ suc at = omega arith in
             let b : j ≡ suc (suc at) = omega arith in
             let c : k ≡ suc (suc (suc at)) = omega arith in
-            let d : 48 + label / 100 ≡ digit (label / 10 / 10) = omega arith in
-            (λ m. put (a m) (b m) (c m) (d m) y (48 + label % 10))
+            let d : x ≡ digit (label / 10 / 10) = omega (arith, is .first) in
+            (λ m. put (a m) (b m) (c m) (d m) (is .second m) (is .third m))
             ∙ sym (whole (digit (label / 10 / 10) ∷ digit (label / 10 % 10) ∷ digit (label % 10) ∷ []) e)

@@ -24,7 +24,8 @@ use Rattle.labeltext.specs.Demand1.{demand1-tidy-answer, kept-answer}
 use Rattle.labeltext.specs.M100.{labels-are-listed}
 use Rattle.labeltext.specs.declared.TidyAnswer.{TidyAnswer}
 use Rattle.labeltext.specs.declared.TidyAnswer.the-variants.{Refused}
-use Rattle.numbers.specs.Store.{asByte, Stores, ListedAs}
+use Rattle.numbers.specs.Number.{asByte}
+use Rattle.numbers.specs.Store.{Stores, ListedAs}
 use Rattle.tidy.specs.Labels.{TidiedLabels}
 
 -- a text that is too long, or whose line is not read to its end
@@ -38,16 +39,31 @@ unread-breaks text h k = h (lists-done (k .lists))
 pub record Listed (text : List ℕ) (size : ℕ) (store : List ℕ) : Type 0 where
   pub form : KeepsForm text
   pub size-is : size ≡ length (labelsIn text)
+  pub few : size ≤ 255
   pub stores : Stores (labelsIn text) store
+
+-- its labels are the numbers that are read
+module _ (text : List ℕ) (short : length text ≤ 4096) (done : Done (run start (lineOf text))) where
+  kept-form : KeepsForm text
+  kept-form = record { short = short; numbers = numbersOf (run start (lineOf text)); lists = read-lists text done }
+
+  read-labels : labelsIn text ≡ numbersOf (run start (lineOf text))
+  read-labels = labels-are-listed text (numbersOf (run start (lineOf text))) short (read-lists text done)
+
+  -- more than 255 numbers
+  pub many-tidied : (before : List ℕ) → 255 < length (numbersOf (run start (lineOf text))) → Tidied text before (Refused Count) before
+  many-tidied before many = record {
+    answered = demand1-tidy-answer text (length before) (says.refused kept-form (count (inr (omega (arith, ap length read-labels)))));
+    left = refl;
+  }
 
 pub listed : (text : List ℕ) (size : ℕ) (store : List ℕ) → length text ≤ 4096 → ListedAs size (lineOf text) store → Listed text size store
 listed text size store short l =
-    let numbers = numbersOf (run start (lineOf text)) in
-    let lists = read-lists text (l .done) in
-    let same : labelsIn text ≡ numbers = labels-are-listed text numbers short lists in
+    let same = read-labels text short (l .done) in
     record {
-      form = record { short = short; numbers = numbers; lists = lists };
+      form = kept-form text short (l .done);
       size-is = l .count-is ∙ ap length (sym same);
+      few = l .few;
       stores = subst (λ (m : List ℕ). Stores m store) (sym same) (l .stores);
     }
 
@@ -67,61 +83,56 @@ refused-outside e out there (twice c o t) = absurd (o out)
 refused-outside e out there (barred c o t x) = absurd (o out)
 
 module _ {text : List ℕ} {size : ℕ} {store : List ℕ} (l : Listed text size store) where
-  -- more than 255 numbers
-  pub many-tidied : (before : List ℕ) → 255 < size → Tidied text before (Refused Count) before
-  many-tidied before many = record { answered = demand1-tidy-answer text (length before) (says.refused (l .form) (count (inr (omega (arith, l .size-is))))); left = refl }
+  pub stored : size ≤ length store
+  stored = omega (arith, l .stores .long, l .few)
 
-  module _ (few : size ≤ 255) where
-    pub stored : size ≤ length store
-    stored = omega (arith, l .stores .long)
+  pub stored-size : length (take size store) ≡ size
+  stored-size = length-take-le size store stored
 
-    pub stored-size : length (take size store) ≡ size
-    stored-size = length-take-le size store stored
+  byte-at : (k : ℕ) → k < length (labelsIn text) → getD (take size store) k 0 ≡ asByte (getD (labelsIn text) k 0)
+  byte-at k h = getD-take size store k 0 (omega (arith, l .size-is)) ∙ l .stores .kept k h
 
-    byte-at : (k : ℕ) → k < length (labelsIn text) → getD (take size store) k 0 ≡ asByte (getD (labelsIn text) k 0)
-    byte-at k h = getD-take size store k 0 (omega (arith, l .size-is)) ∙ l .stores .kept (omega (arith, l .size-is)) k h
+  outside-stored : LabelOutside (labelsIn text) → LabelOutside (take size store)
+  outside-stored (zero, from, to, h) = absurd (omega arith)
+  outside-stored (suc i, from, to, h) = (
+    suc i,
+    from,
+    omega (arith, stored-size, l .size-is),
+    elim h [
+      | inl low ↦ inl (omega (arith, byte-at i (omega arith), byte-small (getD (labelsIn text) i 0) (omega arith)))
+      | inr high ↦ elim (decLt 255 (getD (labelsIn text) i 0)) [
+        | yes large ↦ inl (omega (arith, byte-at i (omega arith), byte-large (getD (labelsIn text) i 0) large))
+        | no small ↦ inr (omega (arith, stored-size, l .size-is, byte-at i (omega arith), byte-small (getD (labelsIn text) i 0) (omega arith)))
+      ]
+    ],
+  )
 
-    outside-stored : LabelOutside (labelsIn text) → LabelOutside (take size store)
-    outside-stored (zero, from, to, h) = absurd (omega arith)
-    outside-stored (suc i, from, to, h) = (
-      suc i,
-      from,
-      omega (arith, stored-size, l .size-is),
-      elim h [
-        | inl low ↦ inl (omega (arith, byte-at i (omega arith), byte-small (getD (labelsIn text) i 0) (omega arith)))
-        | inr high ↦ elim (decLt 255 (getD (labelsIn text) i 0)) [
-          | yes large ↦ inl (omega (arith, byte-at i (omega arith), byte-large (getD (labelsIn text) i 0) large))
-          | no small ↦ inr (omega (arith, stored-size, l .size-is, byte-at i (omega arith), byte-small (getD (labelsIn text) i 0) (omega arith)))
-        ]
-      ],
-    )
+  inside-stored : ¬ LabelOutside (labelsIn text) → take size store ≡ labelsIn text
+  inside-stored inside = ext-getD 0 (take size store) (labelsIn text) (stored-size ∙ l .size-is) (λ k h.
+      let k-in : k < length (labelsIn text) = omega (arith, stored-size, l .size-is) in
+      let small : ¬ (length (labelsIn text) < getD (labelsIn text) k 0) = λ high. inside (suc k, omega arith, omega arith, inr high) in
+      byte-at k k-in ∙ byte-small (getD (labelsIn text) k 0) (omega (arith, l .size-is, l .few)))
 
-    inside-stored : ¬ LabelOutside (labelsIn text) → take size store ≡ labelsIn text
-    inside-stored inside = ext-getD 0 (take size store) (labelsIn text) (stored-size ∙ l .size-is) (λ k h.
-        let k-in : k < length (labelsIn text) = omega (arith, stored-size, l .size-is) in
-        let small : ¬ (length (labelsIn text) < getD (labelsIn text) k 0) = λ high. inside (suc k, omega arith, omega arith, inr high) in
-        byte-at k k-in ∙ byte-small (getD (labelsIn text) k 0) (omega (arith, l .size-is)))
+  -- what is answered for the stored list is the answer for the text
+  pub stored-tidied : {before after : List ℕ} {answer : TidyAnswer} → TidiedLabels (take size store) before answer after → Tidied text before answer after
+  stored-tidied {before} {after} {answer} t = elim (dec-outside (labelsIn text)) [
+    | no inside ↦
+        let same = inside-stored inside in
+        record {
+          answered = t .answered ∙ ap (λ (a : List ℕ). labelsTidied a (length before)) same ∙ kept;
+          left = t .left ∙ ap (λ (a : List ℕ). tidyAfter answer a before) same;
+        }
+    | yes there ↦ go (judgement (take size store)) there
+  ]
+    where
+      kept : labelsTidied (labelsIn text) (length before) ≡ tidyAnswer text (length before)
+      kept = sym (kept-answer text (length before) (l .form))
 
-    -- what is answered for the stored list is the answer for the text
-    pub stored-tidied : {before after : List ℕ} {answer : TidyAnswer} → TidiedLabels (take size store) before answer after → Tidied text before answer after
-    stored-tidied {before} {after} {answer} t = elim (dec-outside (labelsIn text)) [
-      | no inside ↦
-          let same = inside-stored inside in
+      go : Judgement (take size store) → LabelOutside (labelsIn text) → Tidied text before answer after
+      go (judged.sound s) there = absurd (s .inside (outside-stored there))
+      go (judged.refused {refusal} cause) there =
+          let is : answer ≡ Refused refusal = t .answered ∙ sym (refused-judged Refused (take size store) _ cause) in
           record {
-            answered = t .answered ∙ ap (λ (a : List ℕ). labelsTidied a (length before)) same ∙ kept;
-            left = t .left ∙ ap (λ (a : List ℕ). tidyAfter answer a before) same;
+            answered = is ∙ refused-judged Refused (labelsIn text) _ (refused-outside (stored-size ∙ l .size-is) (outside-stored there) there cause) ∙ kept;
+            left = t .left ∙ ap (λ (a : TidyAnswer). tidyAfter a (take size store) before) is ∙ sym (ap (λ (a : TidyAnswer). tidyAfter a (labelsIn text) before) is);
           }
-      | yes there ↦ go (judgement (take size store)) there
-    ]
-      where
-        kept : labelsTidied (labelsIn text) (length before) ≡ tidyAnswer text (length before)
-        kept = sym (kept-answer text (length before) (l .form))
-
-        go : Judgement (take size store) → LabelOutside (labelsIn text) → Tidied text before answer after
-        go (judged.sound s) there = absurd (s .inside (outside-stored there))
-        go (judged.refused {refusal} cause) there =
-            let is : answer ≡ Refused refusal = t .answered ∙ sym (refused-judged Refused (take size store) _ cause) in
-            record {
-              answered = is ∙ refused-judged Refused (labelsIn text) _ (refused-outside (stored-size ∙ l .size-is) (outside-stored there) there cause) ∙ kept;
-              left = t .left ∙ ap (λ (a : TidyAnswer). tidyAfter a (take size store) before) is ∙ sym (ap (λ (a : TidyAnswer). tidyAfter a (labelsIn text) before) is);
-            }

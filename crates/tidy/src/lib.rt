@@ -10,6 +10,7 @@ ghost use Rattle.digits.specs.Decimal.{space, field};
 ghost use Rattle.labeltext.specs.LineOf.{lineLength};
 ghost use Rattle.labeltext.specs.Tidy.{tidyText};
 ghost use Rattle.labeltext.specs.Answer.{Tidied};
+ghost use Rattle.tidy.specs.Digits.{DigitsOf, AllDigits};
 ghost use Rattle.tidy.specs.Labels.{TidiedLabels};
 use labels::Verdict;
 use labeltext::TidyAnswer;
@@ -17,20 +18,20 @@ use numbers::Reading;
 use record::Refusal;
 
 // 1 where a label is above a number, else 0.
-fn above(label: u8, number: u8) -> usize
+fn above(label: u8, number: u8) -> u16
     ensures { λ r. ⌜ (r ≡ bit (ltb number label)) × (r ≤ 1) ⌝ }
 {
     if number < label { 1 } else { 0 }
 }
 
 // How many bytes a label takes, with the byte after it.
-fn field_size(label: u8) -> usize
+fn field_size(label: u8) -> u16
     ensures { λ r. ⌜ (r ≡ length (field label space)) × (r ≤ 4) ⌝ }
 {
     2 + above(label, 9) + above(label, 99)
 }
 
-// The length of the tidy text of some labels.
+// The length of the tidy text of some labels. It is summed in 16 bits, so that the compiler takes several labels at a time.
 fn tidy_size(labels: &[u8]) -> usize
     requires { ⌜ (1 ≤ length (now labels)) × (length (now labels) ≤ 255) ⌝ }
     ensures { λ r. ⌜ r ≡ length (tidyText (now (labels .entry))) ⌝ }
@@ -42,37 +43,58 @@ fn tidy_size(labels: &[u8]) -> usize
         size += field_size(labels[k]);
         k += 1;
     }
-    size
+    size as usize
 }
 
-// Puts a label and a space after it where the text so far ends, and answers where it then ends. A digit that the label does not have is put
-// all the same, and the next one over it: that costs less than to foresee how many there are.
-fn put_label(text: &mut [u8], at: usize, label: u8) -> usize
-    requires { ⌜ at + length (field label space) ≤ length (now text) ⌝ }
+// The three digits of each label. They are found before any is put: no label waits for where the one before it ends, and the compiler takes
+// several labels at a time.
+fn all_digits(labels: &[u8], hundreds: &mut [u8; 255], tens: &mut [u8; 255], ones: &mut [u8; 255])
+    requires { ⌜ (length (now labels) ≤ 255) × (length (now hundreds) ≡ 255) × (length (now tens) ≡ 255) × (length (now ones) ≡ 255) ⌝ }
+    ensures { λ _. ⌜ AllDigits (now (labels .entry)) (now (hundreds .exit)) (now (tens .exit)) (now (ones .exit)) ⌝ }
+{
+    let n = labels.len();
+    let mut k = 0;
+    while k < n {
+        let label = labels[k];
+        hundreds[k] = b'0' + label / 100;
+        tens[k] = b'0' + label / 10 % 10;
+        ones[k] = b'0' + label % 10;
+        k += 1;
+    }
+}
+
+// Puts a label, by its three digits, and a space after it where the text so far ends, and answers where it then ends. A zero in front is
+// put all the same, and the next digit over it: that costs less than to foresee how many digits there are.
+fn put_field(text: &mut [u8], at: usize, label: u8, hundred: u8, ten: u8, one: u8) -> usize
+    requires { ⌜ (at + length (field label space) ≤ length (now text)) × DigitsOf label hundred ten one ⌝ }
     ensures is { λ r. ⌜ now (text .exit) ≡ sets (now (text .entry)) at (field label space) ⌝ }
     ensures next { λ r. ⌜ r ≡ at + length (field label space) ⌝ }
 {
-    text[at] = b'0' + label / 100;
-    let tens = at + above(label, 99);
-    text[tens] = b'0' + label / 10 % 10;
-    let ones = tens + above(label, 9);
-    text[ones] = b'0' + label % 10;
-    text[ones + 1] = b' ';
-    ones + 2
+    text[at] = hundred;
+    let second = at + above(label, 99) as usize;
+    text[second] = ten;
+    let third = second + above(label, 9) as usize;
+    text[third] = one;
+    text[third + 1] = b' ';
+    third + 2
 }
 
-// Writes the tidy text of some labels from the front of a slice that has the room, and leaves the rest of it. The space after the last label
-// gives way to the newline.
+// Writes the tidy text of some labels from the front of a slice that has the room, and leaves the rest of it. The space after the last
+// label gives way to the newline.
 fn put_labels(labels: &[u8], tidy: &mut [u8])
-    requires { ⌜ (1 ≤ length (now labels)) × (length (tidyText (now labels)) ≤ length (now tidy)) ⌝ }
+    requires { ⌜ (1 ≤ length (now labels)) × (length (now labels) ≤ 255) × (length (tidyText (now labels)) ≤ length (now tidy)) ⌝ }
     ensures { λ _. ⌜ now (tidy .exit)
         ≡ tidyText (now (labels .entry)) ++ drop (length (tidyText (now (labels .entry)))) (now (tidy .entry)) ⌝ }
 {
+    let mut hundreds = [0u8; 255];
+    let mut tens = [0u8; 255];
+    let mut ones = [0u8; 255];
+    all_digits(labels, &mut hundreds, &mut tens, &mut ones);
     let n = labels.len();
     let mut at = 0;
     let mut k = 0;
     while k < n {
-        at = put_label(tidy, at, labels[k]);
+        at = put_field(tidy, at, labels[k], hundreds[k], tens[k], ones[k]);
         k += 1;
     }
     tidy[at - 1] = b'\n';
@@ -118,11 +140,9 @@ pub fn tidy(text: &[u8], tidy: &mut [u8]) -> TidyAnswer
     let n = line_length(text);
     let mut list = [0u8; 256];
     let reading = numbers::read(&text[..n], &mut list);
-    let Reading::Listed(count) = reading else {
-        return TidyAnswer::Refused(Refusal::TextForm);
-    };
-    if 255 < count {
-        return TidyAnswer::Refused(Refusal::Count);
+    match reading {
+        Reading::Broken => TidyAnswer::Refused(Refusal::TextForm),
+        Reading::Many => TidyAnswer::Refused(Refusal::Count),
+        Reading::Listed(count) => tidy_labels(&list[..count], tidy),
     }
-    tidy_labels(&list[..count], tidy)
 }

@@ -1,54 +1,61 @@
--- `numbers::read` meets its contract. Between two turns the reader holds what Passing says, which also says what the next byte leaves.
-use mathlib.Core.Path.{refl, ap}
-use Prim.Native.Nat.{ℕ, _+_, _-_}
+-- `numbers::read` meets its contract. Between two turns Passing says what is noted, what the next byte leaves of it, and what it comes to.
+use mathlib.Core.Logic.{inl, inr}
+use mathlib.Core.Path.{refl}
+use Prim.Native.Nat.{_-_, _≤_}
 use native.Mathlib.Omega.{arith}
 use lib.ListN.{length}
 use borrow.Author.Needs.{needs}
-use Rattle.numbers.proofs.Passing.{Passing, passing-none, passing-place, passing-broken, passing-digit, passing-turn, passing-left, passing-done}
+use Rattle.numbers.proofs.Passing.{Passing, passing-none, passing-standing, passing-turn, standing-small, passing-broken, passing-comma, passing-many, passing-starts, passing-listed}
 use Rattle.numbers.proofs.read.Statement.{statement}
 use Rattle.numbers.proofs.read.Tie as tie
+use Rattle.numbers.proofs.read.Reads as reads
+use Rattle.numbers.proofs.read.Lts as lts
+use Rattle.numbers.proofs.begins.Reads as begins-reads
+use Rattle.numbers.proofs.fill.Reads as fill-reads
+use Rattle.numbers.proofs.last_place.Reads as last-place-reads
+use Rattle.numbers.proofs.place_after.Reads as place-after-reads
+use Rattle.numbers.proofs.read_labels.Reads as read-labels-reads
 
 abbrev Inv-loop : tie.InvT-loop
-Inv-loop line numbers₀ rows n place₀ value₀ count₀ i₀ numbers place value count i = Passing line i place value count numbers
+Inv-loop line list rows starts₀ n place₀ count₀ i₀ starts place count i = Passing line i place count starts
 
 abbrev μ-loop : tie.MeasureT-loop
-μ-loop line numbers₀ rows n place₀ value₀ count₀ i₀ numbers place value count i = length line - i
+μ-loop line list rows starts₀ n place₀ count₀ i₀ starts place count i = length line - i
+
+-- where the count is known to be at most 255
+abbrev Few : Type 0
+Few = lts.Else4 (fill-reads.Asked, fill-reads.Learnt, place-after-reads.Asked, place-after-reads.Learnt, begins-reads.Asked, begins-reads.Learnt, last-place-reads.Asked, last-place-reads.Learnt, read-labels-reads.Asked, read-labels-reads.Learnt) reads.Pre reads.Post Inv-loop μ-loop
 
 fill-requires : tie.Need-fill-requires Inv-loop μ-loop
 fill-requires c κs = refl
 
 loop-holds : tie.Need-loop-holds Inv-loop μ-loop
-loop-holds c = let s = c .before .before .before in passing-none (s .args .line .now) (s .args .numbers .now) (s .pre .1)
+loop-holds c = passing-none (c .before .before .before .args .line .now) _ refl
 
-shared-slice-read-byte : tie.Need-shared-slice-read-byte Inv-loop μ-loop
-shared-slice-read-byte c = search needs
+shared-slice-read-place-after : tie.Need-shared-slice-read-place-after Inv-loop μ-loop
+shared-slice-read-place-after c = search needs
 
 place-after-requires : tie.Need-place-after-requires Inv-loop μ-loop
-place-after-requires c κs = let l = c .before .before .before in (l .before .fill .ensures, passing-place (l .loop .inv))
+place-after-requires c κs =
+    let l = c .before .before .before .before in
+    (l .before .fill .ensures, standing-small (passing-standing (l .loop .inv)))
 
-returns : tie.Need-returns Inv-loop μ-loop
-returns c =
-    let t = c .before .before .before .before in
-    passing-broken (t .before .loop .inv) (t .loop-test .taken) (c .before .place-after .ensures) (c .if1 .taken)
+cast-starts : tie.Need-cast-starts Inv-loop μ-loop
+cast-starts c = search needs
 
-ended-requires : tie.Need-ended-requires Inv-loop μ-loop
-ended-requires c κs = search needs
+mul-starts : tie.Need-mul-starts Inv-loop μ-loop
+mul-starts c = search needs
+
+array-write-starts : tie.Need-array-write-starts Inv-loop μ-loop
+array-write-starts c =
+    let e = c .before .before .before in
+    omega (arith, e .before .before .loop .inv .few, e .if1 .left)
+
+begins-requires : tie.Need-begins-requires Inv-loop μ-loop
+begins-requires c κs = search needs
 
 add-count : tie.Need-add-count Inv-loop μ-loop
-add-count c =
-    let l = c .before .before .before .before .before .before in
-    omega (arith, l .loop .inv .few, c .before .before .before .before .before .loop-test .taken, l .before .before .before .before .pre .0, c .ended .ensures .1)
-
-value-after-requires : tie.Need-value-after-requires Inv-loop μ-loop
-value-after-requires c κs =
-    let t = c .before .before .before .before .before in
-    passing-digit (t .before .loop .inv) (t .loop-test .taken) (c .before .before .place-after .ensures) (c .before .if1 .left)
-
-as-byte-requires : tie.Need-as-byte-requires Inv-loop μ-loop
-as-byte-requires c κs = search needs
-
-element-write-numbers : tie.Need-element-write-numbers Inv-loop μ-loop
-element-write-numbers c = omega arith
+add-count c = search needs
 
 add-i : tie.Need-add-i Inv-loop μ-loop
 add-i c = search needs
@@ -58,27 +65,46 @@ loop-less c = search needs
 
 loop-again : tie.Need-loop-again Inv-loop μ-loop
 loop-again c =
-    let e = c .before .before .before in
-    let t = e .before .before .before .before in
-    passing-turn (t .before .loop .inv) (t .loop-test .taken) (e .before .place-after .ensures) (e .if1 .left)
-    (ap (λ (m : ℕ). t .before .loop .count + m) (c .before .before .ended .ensures .0)) (c .before .value-after .ensures) (c .as-byte .ensures)
+    let e = c .before .before .before .before in
+    let l = e .before .before in
+    passing-turn (l .loop .inv) (e .before .loop-test .taken) (e .if1 .left) (c .before .place-after .ensures) (c .begins .ensures .0) (c .begins .ensures .1)
+
+last-place-requires : tie.Need-last-place-requires Inv-loop μ-loop
+last-place-requires c κs =
+    let l = c .before .before in
+    (l .before .fill .ensures, passing-standing (l .loop .inv), l .loop .inv .within)
+
+returns : tie.Need-returns Inv-loop μ-loop
+returns c = passing-broken (c .before .before .before .before .loop .inv) (c .before .last-place .ensures) (c .if2 .taken)
 
 returns-2 : tie.Need-returns-2 Inv-loop μ-loop
-returns-2 c = passing-left (c .before .before .loop .inv) (omega (arith, c .before .loop-test .left)) (c .if2 .taken)
-
-within-requires : tie.Need-within-requires Inv-loop μ-loop
-within-requires c κs = search needs
-
-add-t22 : tie.Need-add-t22 Inv-loop μ-loop
-add-t22 c =
-    let l = c .before .before .before in
-    omega (arith, l .loop .inv .few, l .loop .inv .within, l .before .before .before .before .pre .0, c .within .ensures .1)
+returns-2 c = passing-comma (c .before .before .before .before .before .loop .inv) (c .before .before .last-place .ensures) (c .if3 .taken)
 
 returns-3 : tie.Need-returns-3 Inv-loop μ-loop
 returns-3 c =
-    let l = c .before .before .before in
-    passing-done (l .loop .inv) (omega (arith, c .before .before .loop-test .left)) (c .before .if2 .left)
-    (ap (λ (m : ℕ). l .loop .count + m) (c .within .ensures .0))
+    passing-many (c .before .before .before .before .before .before .loop .inv) (c .before .before .before .last-place .ensures) (c .before .before .if2 .left)
+    (c .before .if3 .left) (c .if4 .taken)
+
+-- with at most 255 numbers the loop was left at the line's end
+all : (e : Few) → let l = e .before .before .before .before .before .before in length (l .before .before .before .before .args .line .now) ≤ l .loop .i
+all e = elim (e .before .before .before .before .before .loop-test .came) [
+  | inl l ↦ omega (arith, l .left)
+  | inr r ↦ absurd (omega (arith, r .1 .taken, e .if4 .left))
+]
+
+read-labels-requires : tie.Need-read-labels-requires Inv-loop μ-loop
+read-labels-requires c κs =
+    let e = c .before .before in
+    let l = e .before .before .before .before .before .before in
+    let s = l .before .before .before .before in
+    (passing-starts (l .loop .inv) (e .before .before .before .last-place .ensures) (e .before .before .if2 .left) (e .before .if3 .left) (all e) (omega (arith, e .if4 .left)) (s .pre .0), s .pre .1)
+
+returns-4 : tie.Need-returns-4 Inv-loop μ-loop
+returns-4 c =
+    let e = c .before .before .before in
+    let l = e .before .before .before .before .before .before in
+    passing-listed (l .loop .inv) (e .before .before .before .last-place .ensures) (e .before .before .if2 .left) (e .before .if3 .left) (all e) (omega (arith, e .if4 .left))
+    (c .read-labels .ensures)
 
 pub read-spec : {M : Type 1} → statement M
 read-spec =
@@ -88,18 +114,19 @@ read-spec =
     μ-loop
     fill-requires
     loop-holds
-    shared-slice-read-byte
+    shared-slice-read-place-after
     place-after-requires
-    returns
-    ended-requires
+    cast-starts
+    mul-starts
+    array-write-starts
+    begins-requires
     add-count
-    value-after-requires
-    as-byte-requires
-    element-write-numbers
     add-i
     loop-less
     loop-again
+    last-place-requires
+    returns
     returns-2
-    within-requires
-    add-t22
-    returns-3)
+    returns-3
+    read-labels-requires
+    returns-4)

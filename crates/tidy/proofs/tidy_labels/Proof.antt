@@ -39,7 +39,10 @@ returns-2 : tie.Need-returns-2
 returns-2 c = let a = c .before .before .before .before .before .before .before .args in short-tidied (a .labels .now) (a .tidy .now) (sound (c .before .before)) (omega (arith, c .before .tidy-size .ensures, c .if1 .taken))
 
 put-labels-requires : tie.Need-put-labels-requires
-put-labels-requires c κs = let e = c .before .before .before in (sound→baxter (e .before .before .before .before .before .args .labels .now) (sound e) .1, omega (arith, c .before .before .tidy-size .ensures, c .before .if1 .left))
+put-labels-requires c κs =
+    let e = c .before .before .before in
+    let s = sound→baxter (e .before .before .before .before .before .args .labels .now) (sound e) in
+    (s .1, s .2, omega (arith, c .before .before .tidy-size .ensures, c .before .if1 .left))
 
 same-length : tie.Need-same-length
 same-length c = search needs

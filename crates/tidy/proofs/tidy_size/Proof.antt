@@ -49,6 +49,9 @@ loop-again c =
       omega (arith, c .before .before .loop-test .taken),
     )
 
+cast-result : tie.Need-cast-result Inv-loop μ-loop
+cast-result c = search needs
+
 returns : tie.Need-returns Inv-loop μ-loop
 returns c =
     let l = c .before in
@@ -70,4 +73,5 @@ tidy-size-spec =
     add-k
     loop-less
     loop-again
+    cast-result
     returns)
