@@ -220,11 +220,98 @@ static void test_question(void) {
     CHECK(nenturxo_question(record, 3, 2, 2) == -NENTURXO_POSITIONS_EQUAL);
 }
 
+/* ---- Tidy */
+
+static int32_t tidy(const char *text, size_t length, const char *expected) {
+    uint8_t tidied[NENTURXO_TIDY_CAPACITY];
+    size_t written = strlen(expected);
+    int32_t code;
+    memset(tidied, UNTOUCHED, sizeof tidied);
+    code = nenturxo_tidy((const uint8_t *)text, length, tidied, sizeof tidied);
+    CHECK(memcmp(tidied, expected, written) == 0);
+    CHECK(all_untouched(tidied + written, sizeof tidied - written));
+    return code;
+}
+
+/* The text has this tidy text, which has itself. One byte less is too short. */
+static void tidies(const char *text, const char *expected) {
+    const uint8_t *bytes = (const uint8_t *)text;
+    size_t length = strlen(text), needed = strlen(expected);
+    uint8_t tidied[NENTURXO_TIDY_CAPACITY];
+
+    CHECK(tidy(text, length, expected) == (int32_t)needed);
+    CHECK(tidy(expected, needed, expected) == (int32_t)needed);
+
+    memset(tidied, UNTOUCHED, sizeof tidied);
+    CHECK(nenturxo_tidy(bytes, length, tidied, needed - 1) == -NENTURXO_SLICE_SHORT);
+    CHECK(nenturxo_tidy(bytes, length, tidied, 0) == -NENTURXO_SLICE_SHORT);
+    CHECK(all_untouched(tidied, sizeof tidied));
+    CHECK(nenturxo_tidy(bytes, length, tidied, needed) == (int32_t)needed);
+    CHECK(memcmp(tidied, expected, needed) == 0);
+    CHECK(all_untouched(tidied + needed, sizeof tidied - needed));
+}
+
+static void refuses_text(const char *text, int refusal) {
+    const uint8_t *bytes = (const uint8_t *)text;
+    CHECK(tidy(text, strlen(text), "") == -refusal);
+    CHECK(nenturxo_tidy(bytes, strlen(text), never_written, 0) == -refusal);
+}
+
+/* Lengths that only whole texts can have. */
+static void test_long_texts(void) {
+    char text[NENTURXO_TEXT_LENGTH + 1], rising[NENTURXO_TIDY_CAPACITY + 1];
+    char *end = rising;
+    int i;
+
+    memset(text, ' ', sizeof text);
+    CHECK(tidy(text, NENTURXO_TEXT_LENGTH, "") == -NENTURXO_LIST_LENGTH);
+    CHECK(tidy(text, NENTURXO_TEXT_LENGTH + 1, "") == -NENTURXO_TEXT_FORM);
+    text[NENTURXO_TEXT_LENGTH - 1] = '1';
+    CHECK(tidy(text, NENTURXO_TEXT_LENGTH, "1\n") == 2);
+    CHECK(tidy(text, NENTURXO_TEXT_LENGTH + 1, "") == -NENTURXO_TEXT_FORM);
+
+    for (i = 1; i <= 255; i++) {
+        end += sprintf(end, "%d%c", i, i < 255 ? ' ' : '\n');
+    }
+    CHECK(strlen(rising) == NENTURXO_TIDY_CAPACITY);
+    CHECK(tidy(rising, sizeof rising - 1, rising) == NENTURXO_TIDY_CAPACITY);
+    for (i = 0; i < 256; i++) {
+        memcpy(text + 4 * i, "001,", 4);
+    }
+    CHECK(tidy(text, 4 * 255 - 1, "") == -NENTURXO_LABEL_TWICE);
+    CHECK(tidy(text, 4 * 256 - 1, "") == -NENTURXO_LIST_LENGTH);
+    CHECK(tidy(text, 4 * 256, "") == -NENTURXO_TEXT_FORM);
+}
+
+static void test_tidy(void) {
+    tidies("1", "1\n");
+    tidies(" 4,1 , 03  5 002 \n", "4 1 3 5 2\n");
+    tidies("004,001,003,005,002", "4 1 3 5 2\n");
+    tidies("10 9 8 7 6 5 4 3 2 1", "10 9 8 7 6 5 4 3 2 1\n");
+
+    refuses_text("", NENTURXO_LIST_LENGTH);
+    refuses_text("\n", NENTURXO_LIST_LENGTH);
+    refuses_text("   \n", NENTURXO_LIST_LENGTH);
+    refuses_text("1,", NENTURXO_TEXT_FORM);
+    refuses_text(",1", NENTURXO_TEXT_FORM);
+    refuses_text("1,,2", NENTURXO_TEXT_FORM);
+    refuses_text("0001", NENTURXO_TEXT_FORM);
+    refuses_text("1\t2", NENTURXO_TEXT_FORM);
+    refuses_text("1 2\r\n", NENTURXO_TEXT_FORM);
+    refuses_text("1\n\n", NENTURXO_TEXT_FORM);
+    refuses_text("000", NENTURXO_LABEL_OUTSIDE);
+    refuses_text("1 258", NENTURXO_LABEL_OUTSIDE);
+    refuses_text("2, 02", NENTURXO_LABEL_TWICE);
+    refuses_text("2 4 1 3", NENTURXO_BARRED_PATTERN);
+    test_long_texts();
+}
+
 int main(void) {
     test_labels_in();
     test_rooms_in();
     test_record_in();
     test_question();
+    test_tidy();
     CHECK(sum(never_written, sizeof never_written) == 0);
     printf("%d checks of the C interface, %d failed\n", checks, failures);
     return failures == 0 ? 0 : 1;

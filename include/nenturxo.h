@@ -30,6 +30,10 @@ extern "C" {
 /* Output slices of these lengths are long enough for every floorplan. */
 #define NENTURXO_RECORD_CAPACITY 97
 #define NENTURXO_ROOMS_CAPACITY 255
+#define NENTURXO_TIDY_CAPACITY 912
+
+/* The longest text that nenturxo_tidy reads. */
+#define NENTURXO_TEXT_LENGTH 4096
 
 /* Why a call is refused. Where several hold, the call gives the first in the
  * order that is named at it. */
@@ -50,7 +54,8 @@ enum nenturxo_refusal {
     NENTURXO_SPARE_BIT = 14,       /* spare bit is 1 */
     NENTURXO_SLICE_SHORT = 15,     /* an output slice too short */
     NENTURXO_POSITION_OUTSIDE = 16,/* asked position outside 1 to n */
-    NENTURXO_POSITIONS_EQUAL = 17  /* the two asked positions equal */
+    NENTURXO_POSITIONS_EQUAL = 17, /* the two asked positions equal */
+    NENTURXO_TEXT_FORM = 18        /* text breaks the form or is longer than 4,096 bytes */
 };
 
 /* How a room stands to another one: the two low bits of what
@@ -120,6 +125,22 @@ int32_t nenturxo_record_in(const uint8_t *record, size_t length,
  * Refusals, in this order: 9, 10, 11, 14, 12, 13, 16, 17. */
 int32_t nenturxo_question(const uint8_t *record, size_t length,
                           uint8_t first, uint8_t second);
+
+/* Tidy: a label list as text, typed by hand, becomes its tidy text.
+ *
+ * text       at most 4,096 bytes: numbers of one to three decimal digits,
+ *            leading zeros allowed; between two numbers one or more spaces, or
+ *            one comma with any spaces round it; spaces may stand before the
+ *            first and after the last number, and one newline may end the text
+ * tidy       gets the same labels without leading zeros, one space between,
+ *            one newline at the end: 912 bytes are always enough
+ *
+ * Two texts have the same tidy text exactly if they list the same labels in
+ * the same order, and the tidy text of a tidy text is that text.
+ *
+ * Gives the tidy text's length. Refusals, in this order: 18, 1, 6, 7, 8, 15. */
+int32_t nenturxo_tidy(const uint8_t *text, size_t length,
+                      uint8_t *tidy, size_t capacity);
 
 #ifdef __cplusplus
 }

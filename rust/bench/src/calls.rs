@@ -4,7 +4,7 @@ use crate::case::Case;
 use crate::outputs::{Drawing, Numbers};
 use crate::room_list::RoomList;
 use crate::timing::{one_turn, quickest, Times};
-use nenturxo::RECORD_CAPACITY;
+use nenturxo::{RECORD_CAPACITY, TIDY_CAPACITY};
 use reference::fast;
 
 /// A call by name.
@@ -81,6 +81,15 @@ pub const QUESTION: Call = Call {
     },
 };
 
+pub const TIDY: Call = Call {
+    name: "Tidy",
+    times: |cases, calls| tidy(cases, calls, |case| &case.text),
+    sheet: |cases| {
+        let mut tidied = [0; TIDY_CAPACITY];
+        one_turn(cases, |case| reference::tidy(&case.text, &mut tidied))
+    },
+};
+
 /// The times of so many calls of "Rooms in" on the lists of cases, accepted or
 /// refused.
 pub fn rooms_in<T>(cases: &[T], calls: usize, list_of: impl Fn(&T) -> &RoomList) -> Times {
@@ -90,5 +99,17 @@ pub fn rooms_in<T>(cases: &[T], calls: usize, list_of: impl Fn(&T) -> &RoomList)
         calls,
         |case| numbers.by_library(list_of(case)),
         |case| same.by_tuned(list_of(case)),
+    )
+}
+
+/// The times of so many calls of "Tidy" on the texts of cases, accepted or
+/// refused.
+pub fn tidy<T>(cases: &[T], calls: usize, text_of: impl Fn(&T) -> &[u8]) -> Times {
+    let [mut tidied, mut same] = [[0; TIDY_CAPACITY]; 2];
+    quickest(
+        cases,
+        calls,
+        |case| nenturxo::tidy(text_of(case), &mut tidied),
+        |case| fast::tidy(text_of(case), &mut same),
     )
 }

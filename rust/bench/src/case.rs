@@ -2,7 +2,9 @@
 
 use crate::outputs::{Drawing, Numbers};
 use crate::room_list::RoomList;
+use crate::texts::answer;
 use compare::{of_library, Floorplan};
+use reference::cases::text::mixed_text;
 use reference::cases::walk::random_list;
 use reference::cases::Random;
 use reference::Numbering;
@@ -15,6 +17,8 @@ pub struct Case {
     /// The drawing of the record, stretched and shuffled.
     pub list: RoomList,
     numbering: Numbering,
+    /// The labels as text, typed by many hands.
+    pub text: Vec<u8>,
     /// Two positions to ask for.
     pub first: u8,
     pub second: u8,
@@ -30,6 +34,8 @@ impl Case {
         plan.stretch(random);
         plan.shuffle(random);
         Self {
+            // A copy of the generator, so that the plans are the same as without texts.
+            text: mixed_text(&walked.labels, &mut random.clone()),
             record: walked.record(),
             labels: walked.labels,
             list: RoomList::new(plan.rooms()),
@@ -46,6 +52,7 @@ impl Case {
         self.check_record_in();
         self.check_rooms_in();
         self.check_question();
+        self.check_tidy();
     }
 
     fn check_labels_in(&self) {
@@ -95,5 +102,10 @@ impl Case {
         let rust = rust.map(|(relation, touch)| (of_library::relation(relation), touch));
         assert!(library.is_some(), "{:02X?} is refused", self.record);
         assert_eq!(library, rust, "{first}, {second} of {:02X?}", self.record);
+    }
+
+    fn check_tidy(&self) {
+        let answer = answer(&self.text);
+        assert_eq!(answer, Ok(reference::tidy_form(&self.labels)));
     }
 }

@@ -8,14 +8,16 @@ mod calls;
 mod case;
 mod outputs;
 mod room_list;
+mod texts;
 mod timing;
 
-use calls::{rooms_in, Call, LABELS_IN, QUESTION, RECORD_IN, ROOMS_IN};
+use calls::{rooms_in, tidy, Call, LABELS_IN, QUESTION, RECORD_IN, ROOMS_IN, TIDY};
 use case::Case;
 use outputs::Numbers;
 use reference::cases::Random;
 use reference::Refusal;
 use room_list::RoomList;
+use texts::{Kind, BROKEN_AT_THE_END, MANY_HANDS, TIDY_FORM, TOO_MANY_NUMBERS};
 use timing::{calls_in_a_round, ROUNDS};
 
 /// Counts of rooms for the time of a call.
@@ -23,6 +25,12 @@ const CALLS: [usize; 3] = [5, 40, 255];
 
 /// Counts of rooms for the time per room.
 const ROOMS: [usize; 4] = [32, 64, 128, 255];
+
+/// Counts of labels for texts that are accepted.
+const LABELS_OF_TEXTS: [usize; 2] = [40, 255];
+
+/// So many numbers that a text of them is longer than any that is read.
+const NUMBERS_OF_LONG_TEXTS: usize = 1300;
 
 /// Different plans for each count of rooms.
 const PLANS: usize = 512;
@@ -35,7 +43,7 @@ fn main() {
     println!("{PLANS} random plans for each n, quickest of {ROUNDS} rounds");
 
     print_head("nanoseconds per call");
-    for call in [LABELS_IN, RECORD_IN, ROOMS_IN, QUESTION] {
+    for call in [LABELS_IN, RECORD_IN, ROOMS_IN, QUESTION, TIDY] {
         for n in CALLS {
             let cases = cases(n);
             print_row(call, &cases, calls_in_a_round(&cases, n), 1.0);
@@ -49,6 +57,8 @@ fn main() {
             print_refused_row(refusal, n);
         }
     }
+
+    print_texts("nanoseconds per call of Tidy, by the text");
 
     print_head("nanoseconds per room");
     for call in [LABELS_IN, RECORD_IN, ROOMS_IN] {
@@ -122,5 +132,30 @@ fn print_refused_row(refusal: Refusal, n: usize) {
     let times = rooms_in(&lists, calls_in_a_round(&lists, n), |list| list);
     let number = refusal.number();
     print!("refused {number} {n:>5} {:>10.2}", times.library);
+    println!(" {:>10.2} {:>6.2}", times.tuned, times.ratio());
+}
+
+/// Prints the times for texts of each kind.
+fn print_texts(title: &str) {
+    println!("\n{title}");
+    print!("{:<10} {:>5} {:>10}", "", "bytes", "library");
+    println!(" {:>10} {:>6}", "tuned", "ratio");
+    for kind in [TIDY_FORM, MANY_HANDS] {
+        for n in LABELS_OF_TEXTS {
+            print_texts_row(&kind, n);
+        }
+    }
+    for kind in [BROKEN_AT_THE_END, TOO_MANY_NUMBERS] {
+        print_texts_row(&kind, NUMBERS_OF_LONG_TEXTS);
+    }
+}
+
+/// Prints the times for texts of a kind, with their mean length, and the ratio
+/// of the library to the tuned Rust version.
+fn print_texts_row(kind: &Kind, n: usize) {
+    let texts = kind.texts(PLANS, n);
+    let times = tidy(&texts, calls_in_a_round(&texts, n), |text| text);
+    let bytes = texts.iter().map(Vec::len).sum::<usize>() / texts.len();
+    print!("{:<10} {bytes:>5} {:>10.2}", kind.name, times.library);
     println!(" {:>10.2} {:>6.2}", times.tuned, times.ratio());
 }

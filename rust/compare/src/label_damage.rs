@@ -1,6 +1,7 @@
 //! Damage that is done to label lists.
 
 use reference::cases::Random;
+use reference::is_barred;
 
 /// Two different places of a list, which has two at least.
 pub fn two_places(labels: &[u8], random: &mut Random) -> (usize, usize) {
@@ -28,4 +29,12 @@ pub fn put_a_label_outside(labels: &mut [u8], random: &mut Random) {
         _ => 0,
     };
     labels[place] = u8::try_from(entry).expect("an entry is a byte");
+}
+
+/// Changes labels about until some pattern is barred. There are four at least.
+pub fn swap_until_barred(labels: &mut [u8], random: &mut Random) {
+    while !is_barred(labels) {
+        let (one, other) = (random.below(labels.len()), random.below(labels.len()));
+        labels.swap(one, other);
+    }
 }

@@ -1,13 +1,17 @@
 //! The comparison of one case of "Labels in".
 
-use crate::lent::{hex, Output, Surroundings};
-use crate::outcome::{fitting, number, Answer, Outcome, Outcomes};
+use crate::lent::hex;
+use crate::one_slice::Versions;
+use crate::outcome::{fitting, Answer};
 use crate::records::record_length;
 use crate::tally::Tally;
 use reference::Refusal;
 
-/// A Rust version of the call.
-type Version = fn(&[u8], &mut [u8]) -> Answer;
+const VERSIONS: Versions = Versions {
+    expected: reference::labels_in,
+    fast: reference::fast::labels_in,
+    library: nenturxo::labels_in,
+};
 
 impl Tally {
     /// Hands `labels` and a record slice of `capacity` bytes to the library,
@@ -18,7 +22,7 @@ impl Tally {
     ///
     /// If they differ in their answer or in any byte in or around the slices.
     pub fn labels_in(&mut self, labels: &[u8], capacity: usize) -> Answer {
-        self.labels_in_as(reference::labels_in, labels, capacity)
+        self.labels_in_as(VERSIONS, labels, capacity)
     }
 
     /// As [`Self::labels_in`], but leaves out the definitions, which take long
@@ -28,12 +32,12 @@ impl Tally {
     ///
     /// As there.
     pub fn labels_in_quickly(&mut self, labels: &[u8], capacity: usize) -> Answer {
-        self.labels_in_as(reference::fast::labels_in, labels, capacity)
+        self.labels_in_as(VERSIONS.quick(), labels, capacity)
     }
 
-    /// Holds the library and the fast Rust version to another version.
-    fn labels_in_as(&mut self, version: Version, labels: &[u8], capacity: usize) -> Answer {
-        self.in_surroundings(|around| agreed(version, labels, capacity, around))
+    fn labels_in_as(&mut self, versions: Versions, labels: &[u8], capacity: usize) -> Answer {
+        let case = format_args!("labels {labels:?}");
+        self.in_surroundings(|around| versions.agreed(labels, capacity, around, case))
     }
 
     /// Compares a list that is accepted where the slice is long enough, and
@@ -80,27 +84,4 @@ impl Tally {
             "refusal of {labels:?} with capacity {capacity}"
         );
     }
-}
-
-/// The answer of a Rust version that the library and the fast one agree on.
-fn agreed(version: Version, labels: &[u8], capacity: usize, around: Surroundings) -> Answer {
-    let record = || Output::new(capacity, around);
-    let mut answer = Err(Refusal::ListLength);
-    let outcomes = Outcomes {
-        expected: Outcome::of(labels, record(), around, |labels, record| {
-            answer = version(labels, record.slice());
-            answer.map_err(number)
-        }),
-        fast: Outcome::of(labels, record(), around, |labels, record| {
-            reference::fast::labels_in(labels, record.slice()).map_err(number)
-        }),
-        library: Outcome::of(labels, record(), around, |labels, record| {
-            nenturxo::labels_in(labels, record.slice()).map_err(|refusal| refusal.number())
-        }),
-    };
-    outcomes.agree(
-        format_args!("labels {labels:?}, capacity {capacity}"),
-        |record| record.is_clean_after(answer.unwrap_or(0)),
-    );
-    answer
 }

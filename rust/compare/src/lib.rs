@@ -14,6 +14,7 @@ pub mod label_damage;
 mod labels_in;
 mod lent;
 pub mod of_library;
+mod one_slice;
 mod outcome;
 pub mod plandraw;
 mod planlist;
@@ -27,6 +28,8 @@ pub mod rooms_in;
 mod rounds;
 mod svg;
 mod tally;
+pub mod text_damage;
+pub mod tidy;
 mod walks;
 
 pub use causes::each_times;

@@ -12,7 +12,7 @@ pub struct Tally {
     name: &'static str,
     cases: usize,
     accepted: usize,
-    refused: [usize; 18],
+    refused: [usize; Refusal::ALL.len() + 1],
 }
 
 impl Tally {
@@ -23,7 +23,7 @@ impl Tally {
             name,
             cases: 0,
             accepted: 0,
-            refused: [0; 18],
+            refused: [0; Refusal::ALL.len() + 1],
         }
     }
 

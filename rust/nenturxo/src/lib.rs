@@ -31,6 +31,12 @@ pub const RECORD_CAPACITY: usize = 97;
 /// enough for every record.
 pub const ROOMS_CAPACITY: usize = 255;
 
+/// The length of the longest tidy text, that of 255 labels.
+pub const TIDY_CAPACITY: usize = 912;
+
+/// The length of the longest text that [`tidy`] reads.
+pub const TEXT_LENGTH: usize = 4096;
+
 /// Labels in: writes the record of a label list to the front of `record` and
 /// gives its length. The rest of `record` keeps its bytes.
 ///
@@ -180,6 +186,39 @@ pub fn rooms_in(
     positions: &mut [u8],
 ) -> Result<usize, Refusal> {
     result(sys::rooms_in(rooms, record, labels, positions))
+}
+
+/// Tidy: writes the tidy text of a label list, given as text, to the front of
+/// `tidy` and gives its length. The rest of `tidy` keeps its bytes.
+///
+/// `text` has at most [`TEXT_LENGTH`] bytes: numbers of one to three decimal
+/// digits, leading zeros allowed; between two numbers one or more spaces, or
+/// one comma with any spaces round it. Spaces may stand before the first and
+/// after the last number, and one newline may end the text. The tidy text has
+/// no leading zeros, one space between two labels, and one newline at its end.
+///
+/// Two texts have the same tidy text exactly if they list the same labels in
+/// the same order, and the tidy text of a tidy text is that text.
+///
+/// ```
+/// use nenturxo::{tidy, Refusal, TIDY_CAPACITY};
+///
+/// let mut tidied = [0; TIDY_CAPACITY];
+/// let length = tidy(b" 4,1 , 03  5 002 \n", &mut tidied)?;
+/// assert_eq!(tidied[..length], *b"4 1 3 5 2\n");
+/// assert_eq!(tidy(b"4, 1,, 3", &mut tidied), Err(Refusal::TEXT_FORM));
+/// assert_eq!(tidy(b"2 4 1 3", &mut tidied), Err(Refusal::BARRED_PATTERN));
+/// # Ok::<(), Refusal>(())
+/// ```
+///
+/// # Errors
+///
+/// The first of these that holds, and `tidy` is as it was:
+/// [18](Refusal::TEXT_FORM), [1](Refusal::LIST_LENGTH),
+/// [6](Refusal::LABEL_OUTSIDE), [7](Refusal::LABEL_TWICE),
+/// [8](Refusal::BARRED_PATTERN), [15](Refusal::SLICE_SHORT).
+pub fn tidy(text: &[u8], tidy: &mut [u8]) -> Result<usize, Refusal> {
+    result(sys::tidy(text, tidy))
 }
 
 /// The result that a code stands for.

@@ -54,6 +54,8 @@ impl Refusal {
     pub const POSITION_OUTSIDE: Self = Self(16);
     /// 17: the two asked positions equal
     pub const POSITIONS_EQUAL: Self = Self(17);
+    /// 18: text breaks the form or is longer than 4,096 bytes
+    pub const TEXT_FORM: Self = Self(18);
 
     /// The refusal that a code below 0 stands for.
     pub(crate) const fn from_code(code: Code) -> Self {
@@ -87,6 +89,7 @@ impl Refusal {
             Self::SLICE_SHORT => "an output slice too short",
             Self::POSITION_OUTSIDE => "asked position outside 1 to n",
             Self::POSITIONS_EQUAL => "the two asked positions equal",
+            Self::TEXT_FORM => "text breaks the form or is longer than 4,096 bytes",
             // The library has no other numbers.
             _ => "not in the table",
         }

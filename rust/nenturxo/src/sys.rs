@@ -44,6 +44,8 @@ mod c {
             positions: *mut u8,
             positions_capacity: usize,
         ) -> Code;
+
+        pub fn nenturxo_tidy(text: *const u8, n: usize, tidy: *mut u8, capacity: usize) -> Code;
     }
 }
 
@@ -118,4 +120,12 @@ pub fn rooms_in(
             positions.len(),
         )
     }
+}
+
+/// `nenturxo_tidy` on two slices.
+pub fn tidy(text: &[u8], tidy: &mut [u8]) -> Code {
+    // SAFETY: both pointers are good for as many bytes as the lengths beside
+    // them say, the second one for writing too, and as one of the two slices
+    // is borrowed mutably they do not overlap. The call keeps no pointer.
+    unsafe { c::nenturxo_tidy(text.as_ptr(), text.len(), tidy.as_mut_ptr(), tidy.len()) }
 }

@@ -5,6 +5,7 @@
 
 mod random;
 mod small;
+pub mod text;
 pub mod walk;
 pub mod worked;
 

@@ -5,8 +5,11 @@ mod labels;
 mod plan;
 mod rooms;
 mod steps;
+mod text;
+mod tidy;
 mod walks;
 
 pub use labels::labels_in;
 pub use plan::{question, record_in};
 pub use rooms::rooms_in;
+pub use tidy::tidy;

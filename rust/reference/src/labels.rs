@@ -12,20 +12,46 @@ use crate::{is_barred, record_of, triples, Refusal};
 /// The first cause found in the order 1, 6, 7, 8, 15; `record` is then as it
 /// was.
 pub fn labels_in(labels: &[u8], record: &mut [u8]) -> Result<usize, Refusal> {
-    let n = room_count(labels).ok_or(Refusal::ListLength)?;
-    if labels.iter().any(|label| !(1..=n).contains(label)) {
-        return Err(Refusal::LabelOutside);
-    }
-    if occurs_twice(labels) {
-        return Err(Refusal::LabelTwice);
-    }
-    if is_barred(labels) {
-        return Err(Refusal::BarredPattern);
-    }
-    let bytes = record_of(n, &triples(labels));
+    let list = baxter_list_of(labels)?;
+    let bytes = record_of(list.n, &triples(&list.labels));
     let front = record.get_mut(..bytes.len()).ok_or(Refusal::SliceShort)?;
     front.copy_from_slice(&bytes);
     Ok(bytes.len())
+}
+
+/// A Baxter list: what a label list is that has none of the causes 1, 6, 7
+/// and 8.
+pub(crate) struct BaxterList {
+    /// The number of labels.
+    pub(crate) n: u8,
+    /// The labels by position.
+    pub(crate) labels: Vec<u8>,
+}
+
+/// The Baxter list that a list of numbers is, be they bytes or larger.
+///
+/// # Errors
+///
+/// The first cause found in the order 1, 6, 7, 8.
+pub(crate) fn baxter_list_of<T>(numbers: &[T]) -> Result<BaxterList, Refusal>
+where
+    T: Copy + TryInto<u8>,
+{
+    let n = room_count(numbers).ok_or(Refusal::ListLength)?;
+    // n is at most 255, so a number that is no byte is outside 1 to n.
+    let label = |&number: &T| {
+        let label = number.try_into().ok();
+        label.filter(|label| (1..=n).contains(label))
+    };
+    let labels: Option<Vec<u8>> = numbers.iter().map(label).collect();
+    let labels = labels.ok_or(Refusal::LabelOutside)?;
+    if occurs_twice(&labels) {
+        return Err(Refusal::LabelTwice);
+    }
+    if is_barred(&labels) {
+        return Err(Refusal::BarredPattern);
+    }
+    Ok(BaxterList { n, labels })
 }
 
 /// The number of entries, if there are 1 to 255.

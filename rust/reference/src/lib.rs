@@ -2,8 +2,9 @@
 //!
 //! This is the separately written version that the proved library is held to.
 //! It is meant to be believed by reading: each function is one sentence of
-//! the sheet and says which. What is fast lives apart, in [`fast`], and is
-//! itself held to the definitions. What tests are made of is in [`cases`].
+//! the sheet, or of the request M-100, and says which. What is fast lives
+//! apart, in [`fast`], and is itself held to the definitions. What tests are
+//! made of is in [`cases`].
 //!
 //! ```
 //! let mut record = [0; 97];
@@ -29,6 +30,8 @@ mod record;
 mod refusal;
 mod rooms;
 mod runs;
+mod text;
+mod tidy;
 mod touch;
 mod triple;
 
@@ -42,5 +45,7 @@ pub use record::{record_of, triples_in};
 pub use refusal::Refusal;
 pub use rooms::{equivalent, numbering_of, rooms_in, segments, Numbered, Numbering, Segment};
 pub use runs::{labels_of, Runs, TRIPLES};
+pub use text::{numbers_in, tidy_form};
+pub use tidy::tidy;
 pub use touch::{Edge, Line};
 pub use triple::{triples, Triple};

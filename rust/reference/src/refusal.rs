@@ -1,4 +1,4 @@
-//! The sheet's table of refusals.
+//! The sheet's table of refusals, with the number that M-100 adds.
 
 use std::fmt;
 
@@ -40,11 +40,13 @@ pub enum Refusal {
     PositionOutside = 16,
     /// 17: the two asked positions equal
     PositionsEqual = 17,
+    /// 18: text breaks the form or is longer than 4,096 bytes
+    TextForm = 18,
 }
 
 impl Refusal {
     /// Every refusal, in the order of the table.
-    pub const ALL: [Self; 17] = [
+    pub const ALL: [Self; 18] = [
         Self::ListLength,
         Self::EmptyRoom,
         Self::SharedSquare,
@@ -62,6 +64,7 @@ impl Refusal {
         Self::SliceShort,
         Self::PositionOutside,
         Self::PositionsEqual,
+        Self::TextForm,
     ];
 
     /// What a room list is refused with, in the sheet's order, before 15.
@@ -92,6 +95,15 @@ impl Refusal {
         Self::RunsLeft,
     ];
 
+    /// What a text is refused with, in the request's order, before 15.
+    pub const OF_TEXTS: [Self; 5] = [
+        Self::TextForm,
+        Self::ListLength,
+        Self::LabelOutside,
+        Self::LabelTwice,
+        Self::BarredPattern,
+    ];
+
     /// The refusal's number in the table.
     #[must_use]
     pub const fn number(self) -> u8 {
@@ -119,6 +131,7 @@ impl Refusal {
             Self::SliceShort => "an output slice too short",
             Self::PositionOutside => "asked position outside 1 to n",
             Self::PositionsEqual => "the two asked positions equal",
+            Self::TextForm => "text breaks the form or is longer than 4,096 bytes",
         }
     }
 }
@@ -136,9 +149,9 @@ mod tests {
     use super::Refusal;
 
     #[test]
-    fn numbers_are_1_to_17_in_the_order_of_the_table() {
+    fn numbers_are_1_to_18_in_the_order_of_the_table() {
         let numbers: Vec<u8> = Refusal::ALL.iter().map(|r| r.number()).collect();
-        assert_eq!(numbers, (1..=17).collect::<Vec<u8>>());
+        assert_eq!(numbers, (1..=18).collect::<Vec<u8>>());
     }
 
     #[test]
@@ -147,5 +160,6 @@ mod tests {
         assert_eq!(numbers(&Refusal::OF_ROOMS), [1, 2, 3, 4, 5]);
         assert_eq!(numbers(&Refusal::OF_LABELS), [1, 6, 7, 8]);
         assert_eq!(numbers(&Refusal::OF_RECORDS), [9, 10, 11, 14, 12, 13]);
+        assert_eq!(numbers(&Refusal::OF_TEXTS), [18, 1, 6, 7, 8]);
     }
 }

@@ -1,6 +1,6 @@
-//! The four calls.
+//! The calls.
 
-use crate::{labels, records, rooms};
+use crate::{labels, records, rooms, texts};
 use compare::Tally;
 use reference::cases::Random;
 use reference::Refusal;
@@ -25,7 +25,7 @@ const OF_SLICES: &[Refusal] = &[Refusal::SliceShort];
 const OF_POSITIONS: &[Refusal] = &[Refusal::PositionOutside, Refusal::PositionsEqual];
 
 /// The calls of the library.
-pub const CALLS: [Call; 4] = [
+pub const CALLS: [Call; 5] = [
     Call {
         name: "Labels in",
         compare_some: labels::compare_some,
@@ -45,6 +45,11 @@ pub const CALLS: [Call; 4] = [
         name: "Rooms in",
         compare_some: rooms::compare_some,
         refusals: [&Refusal::OF_ROOMS, OF_SLICES],
+    },
+    Call {
+        name: "Tidy",
+        compare_some: texts::compare_some,
+        refusals: [&Refusal::OF_TEXTS, OF_SLICES],
     },
 ];
 

@@ -32,7 +32,7 @@ fn compare(tally: &mut Tally, labels: &[u8], random: &mut Random) {
 }
 
 /// A list with damage, or sometimes random bytes.
-fn damaged(list: &[u8], random: &mut Random) -> Vec<u8> {
+pub fn damaged(list: &[u8], random: &mut Random) -> Vec<u8> {
     if random.below(16) == 0 {
         let length = random.between(0, 300);
         return (0..length).map(|_| random.byte()).collect();

@@ -15,6 +15,7 @@ mod labels;
 mod records;
 mod rooms;
 mod size;
+mod texts;
 
 use call::{Call, BATCH, CALLS};
 use compare::{grouped, Tally};
@@ -24,7 +25,7 @@ use std::sync::atomic::{AtomicUsize, Ordering};
 use std::{env, panic, process, thread};
 
 /// Batches, unless the argument says otherwise.
-const BATCHES: usize = 5_000;
+const BATCHES: usize = 6_250;
 
 const THREADS: usize = 2;
 

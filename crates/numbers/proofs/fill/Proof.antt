@@ -1,8 +1,8 @@
--- `numbers::fill` meets its contract.
-use mathlib.Core.Path.{sym, ap, subst}
+-- `numbers::fill` meets its contract: the rows as they are filled in are tried on each byte.
+use mathlib.Core.Path.{refl}
 use borrow.Author.Needs.{needs}
-use Rattle.numbers.specs.Places.{Rows}
-use Rattle.numbers.proofs.Filled.{filled, filled-rows}
+use Rattle.labeltext.specs.Symbol.{symbolOf}
+use Rattle.numbers.proofs.Filled.{tested-rows}
 use Rattle.numbers.proofs.fill.Statement.{statement}
 use Rattle.numbers.proofs.fill.Tie as tie
 
@@ -43,7 +43,8 @@ element-write-rows-12 : tie.Need-element-write-rows-12
 element-write-rows-12 c = search needs
 
 returns : tie.Need-returns
-returns c = subst Rows (ap filled (sym (c .pre))) filled-rows
+unfolding symbolOf
+returns c = rw (c .pre) (tested-rows _ refl tt)
 
 pub fill-spec : {M : Type 1} → statement M
 fill-spec =

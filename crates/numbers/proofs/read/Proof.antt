@@ -72,7 +72,7 @@ loop-again c =
 last-place-requires : tie.Need-last-place-requires Inv-loop μ-loop
 last-place-requires c κs =
     let l = c .before .before in
-    (l .before .fill .ensures, passing-standing (l .loop .inv), l .loop .inv .within)
+    (l .before .fill .ensures, passing-standing (l .loop .inv), omega (arith, l .loop .inv .within))
 
 returns : tie.Need-returns Inv-loop μ-loop
 returns c = passing-broken (c .before .before .before .before .loop .inv) (c .before .last-place .ensures) (c .if2 .taken)

@@ -1,12 +1,12 @@
 //! Baxter lists with damage: each refusal for its own cause, and in the
 //! order 1, 6, 7, 8, 15 where there are several.
 
-use compare::label_damage::{put_a_label_outside, repeat_a_label, two_places};
+use compare::label_damage::{put_a_label_outside, repeat_a_label, swap_until_barred, two_places};
 use compare::records::record_length;
 use compare::Tally;
 use reference::cases::walk::biased_list;
 use reference::cases::Random;
-use reference::{is_barred, Refusal};
+use reference::Refusal;
 
 /// Record slices that are empty, just too short, just right and too long.
 fn capacities(n: usize) -> [usize; 4] {
@@ -27,10 +27,7 @@ fn sound(random: &mut Random) -> Vec<u8> {
 /// As [`sound`], but with labels changed about until some pattern is barred.
 fn barred(random: &mut Random) -> Vec<u8> {
     let mut labels = sound(random);
-    while !is_barred(&labels) {
-        let (one, other) = (random.below(labels.len()), random.below(labels.len()));
-        labels.swap(one, other);
-    }
+    swap_until_barred(&mut labels, random);
     labels
 }
 

@@ -24,6 +24,7 @@ fn both_sides_give_the_same_number_and_sentence_to_every_refusal() {
         Bound::SLICE_SHORT,
         Bound::POSITION_OUTSIDE,
         Bound::POSITIONS_EQUAL,
+        Bound::TEXT_FORM,
     ];
     let mut compared = 0;
     for (bound, refusal) in bound.into_iter().zip(Refusal::ALL) {
@@ -32,5 +33,5 @@ fn both_sides_give_the_same_number_and_sentence_to_every_refusal() {
         compared += 1;
     }
     report(format_args!("{compared} refusals compared"));
-    assert_eq!(compared, 17);
+    assert_eq!(compared, 18);
 }

@@ -31,20 +31,36 @@ const BACKWARD: usize = usize::MAX;
 // Not inlined, so that a benchmark pays for a call as with a library.
 #[inline(never)]
 pub fn labels_in(labels: &[u8], record: &mut [u8]) -> Result<usize, Refusal> {
-    let n = labels.len();
-    let kind = u8::try_from(n).map_err(|_| Refusal::ListLength)?;
-    let (&first, rest) = labels.split_first().ok_or(Refusal::ListLength)?;
-    if has_label_outside(kind, labels) {
-        return Err(Refusal::LabelOutside);
-    }
-    let Some(body) = body(kind, first, rest) else {
-        return Err(twice_or_barred(labels));
-    };
-    let length = 1 + (3 * n - 3).div_ceil(8);
+    let mut body = [0; BODY];
+    let takers = body
+        .chunks_exact_mut(3)
+        .map(|bytes| |triples: u32| bytes.copy_from_slice(&triples.to_be_bytes()[1..]));
+    let kind = room_count(labels, takers)?;
+    let length = 1 + (3 * labels.len() - 3).div_ceil(8);
     let front = record.get_mut(..length).ok_or(Refusal::SliceShort)?;
     front[0] = kind;
     front[1..].copy_from_slice(&body[..length - 1]);
     Ok(length)
+}
+
+/// The number of rooms of a label list, or the first of 1, 6, 7 and 8.
+///
+/// Of the triples each of `takers`, which are enough, gets eight, and the last
+/// one those that are left and zeros, in 24 bits.
+#[inline(always)]
+pub(super) fn room_count<T>(labels: &[u8], takers: T) -> Result<u8, Refusal>
+where
+    T: Iterator<Item: FnOnce(u32)>,
+{
+    let kind = u8::try_from(labels.len()).map_err(|_| Refusal::ListLength)?;
+    let (&first, rest) = labels.split_first().ok_or(Refusal::ListLength)?;
+    if has_label_outside(kind, labels) {
+        return Err(Refusal::LabelOutside);
+    }
+    if !fit_in_gaps(kind, first, rest, takers) {
+        return Err(twice_or_barred(labels));
+    }
+    Ok(kind)
 }
 
 /// Whether some label is outside 1 to n; 0 less 1 wraps round to 255.
@@ -89,10 +105,13 @@ impl Side {
     }
 }
 
-/// The triples of the labels in `rest` as body bytes, or `None` if a label
-/// falls into neither of the two gaps next to the current run.
+/// Whether each of the labels in `rest` falls into one of the two gaps next to
+/// the current run. Their triples go to `takers`.
 #[inline(always)]
-fn body(n: u8, first: u8, rest: &[u8]) -> Option<[u8; BODY]> {
+fn fit_in_gaps<T>(n: u8, first: u8, rest: &[u8], takers: T) -> bool
+where
+    T: Iterator<Item: FnOnce(u32)>,
+{
     let from_other_end = |label: u32| u32::from(n) + 1 - label;
     let nowhere = u32::from(n) + 1;
 
@@ -109,8 +128,7 @@ fn body(n: u8, first: u8, rest: &[u8]) -> Option<[u8; BODY]> {
     let mut end_ahead = PLACES - 1;
     let mut end_behind = 0;
 
-    let mut body = [0; BODY];
-    for (bytes, labels) in body.chunks_exact_mut(3).zip(rest.chunks(8)) {
+    for (take, labels) in takers.zip(rest.chunks(8)) {
         let mut bits = 0;
         for &label in labels {
             let label = u32::from(label);
@@ -122,7 +140,7 @@ fn body(n: u8, first: u8, rest: &[u8]) -> Option<[u8; BODY]> {
 
             let counted = select_unpredictable(down, from_other_end(label), label);
             if counted <= ahead.edge() || counted > ahead.limit() {
-                return None;
+                return false;
             }
             let joins_current = counted == ahead.edge() + 1;
             let joins_next = counted == ahead.limit();
@@ -144,10 +162,9 @@ fn body(n: u8, first: u8, rest: &[u8]) -> Option<[u8; BODY]> {
 
             bits = bits << 3 | triple(down, joins_current, joins_next);
         }
-        bits <<= 3 * (8 - labels.len());
-        bytes.copy_from_slice(&bits.to_be_bytes()[1..]);
+        take(bits << (3 * (8 - labels.len())));
     }
-    Some(body)
+    true
 }
 
 /// The triple of a label: going up, the run that it may join is below it and
