@@ -1,14 +1,18 @@
--- How many numbers of a range have a property; an injection of a range into itself is onto; and ranks: in a strict total order on
--- the numbers below n, the counts of what stands below each number are the numbers below n, each once, and a map that keeps the
--- order keeps them.
+-- How many numbers of a range have a property; an injection of a range into itself is onto, and a sum keeps its value where its
+-- summands change places; and ranks: in a strict total order on the numbers below n, the counts of what stands below each number
+-- are the numbers below n, each once, and a map that keeps the order keeps them.
+use mathlib.Core.Bool.{cond}
 use mathlib.Core.Logic.{_≢_, _⊎_, inl, inr}
-use mathlib.Core.Path.{_≡_, refl, ap}
-use Prim.Native.Nat.{ℕ, zero, suc, _+_, _-_, _≤_, _<_, min}
+use mathlib.Core.Path.{_≡_, refl, sym, ap, _∙_}
+use Prim.Native.Nat.{ℕ, zero, suc, _+_, _-_, _≤_, _<_, min, zero-le}
 use native.Mathlib.Nat.{not-suc-le-zero}
 use native.Mathlib.Omega.{arith}
+use borrow.Author.Tests.{eq-eqb, ne-eqb}
+use lib.Dec.{eqb}
 use Rattle.finite.specs.Decide.{le-or-lt, eq-or-ne}
 use Rattle.finite.specs.Search.{Some, Each}
-use Rattle.finite.specs.Sum.{sum, sum-lt, sum-ones}
+use Rattle.finite.specs.Sum.{sum, sum-lt, sum-ones, sum-same}
+use Rattle.finite.specs.SumBelow.{sum-swap, sum-only}
 
 -- ---- counting
 -- 1 where a statement holds, else 0
@@ -88,6 +92,27 @@ onto a (suc e) f within injective y from to = elim (eq-or-ne (f e) y) [
         let last = within e (omega arith) (omega arith) in
         let here = within i b (omega arith) in
         squash-bounds (f e) (f i) a e (other i b c) (last .0) (last .1) (here .0) (here .1)
+
+-- so a sum over the numbers below n keeps its value where its summands change places: both are the sum of a square of numbers that
+-- has summand v in row i where f i is v, and 0 elsewhere, taken by rows and taken by columns
+pub sum-reordered : (g f : ℕ → ℕ) (n : ℕ) → ((i : ℕ) → i < n → f i < n)
+    → ((i j : ℕ) → i < n → j < n → f i ≡ f j → i ≡ j) → sum (λ i. g (f i)) 0 n ≡ sum g 0 n
+sum-reordered g f n within injective =
+    sym (sum-same (λ i. sum (at i) 0 n) (λ i. g (f i)) 0 n row) ∙ sum-swap at n n
+    ∙ sum-same (λ v. sum (λ i. at i v) 0 n) g 0 n column
+  where
+    at : ℕ → ℕ → ℕ
+    at i v = cond (eqb (f i) v) (g v) 0
+
+    row : (i : ℕ) → 0 ≤ i → i < n → sum (at i) 0 n ≡ g (f i)
+    row i l h =
+        sum-only (at i) n (f i) (within i h) (λ v k ne. simp (ne-eqb (f i) v (λ e. ne (sym e)))) ∙ simp (eq-eqb (f i) (f i) refl)
+
+    column : (v : ℕ) → 0 ≤ v → v < n → sum (λ i. at i v) 0 n ≡ g v
+    column v l h =
+        let (i, a, b, e) = onto 0 n f (λ i p q. (zero-le, within i q)) (λ i j p q r s. injective i j q s) v l h in
+        sum-only (λ i. at i v) n i b (λ j k ne. simp (ne-eqb (f j) v (λ q. ne (injective j i k b (q ∙ sym e)))))
+        ∙ simp (eq-eqb (f i) v e)
 
 -- ---- ranks
 -- a strict total order on the numbers below n

@@ -12,5 +12,6 @@ pub mod Decide
 -- Theorems, and what they rest on
 pub mod Demand1
 pub mod TidyLists
+pub mod TidySize
 pub mod M100
 pub mod Worked

@@ -19,8 +19,9 @@ use Rattle.rooms.specs.SameLabels.{equivalent→same-labels}
 use Rattle.labeltext.specs.Form.{Lists, KeepsForm}
 use Rattle.labeltext.specs.Decide.{lists-one, dec-keeps-form}
 use Rattle.labeltext.specs.Tidy.{tidyText}
-use Rattle.labeltext.specs.TidyLists.{Small, small, tidy-lists, tidy-length}
-use Rattle.labeltext.specs.Answer.{labelsIn, tidyForm, tidyAnswer, Tidied}
+use Rattle.labeltext.specs.TidyLists.{Small, small, tidy-lists}
+use Rattle.labeltext.specs.TidySize.{sound-tidy-size}
+use Rattle.labeltext.specs.Answer.{labelsIn, tidyForm, Tidied}
 use Rattle.labeltext.specs.Demand1.{AcceptedText, TidySays, breaks, refused, short, wrote, demand1-tidy-cause, demand1-tidy-answer}
 use Rattle.labeltext.specs.declared.TidyAnswer.{TidyAnswer}
 use Rattle.labeltext.specs.declared.TidyAnswer.the-variants.{Wrote, Refused}
@@ -48,8 +49,8 @@ module _ {text : List ℕ} (k : AcceptedText text) where
   tidy-form-lists : Lists (tidyForm text) (labelsIn text)
   tidy-form-lists = tidy-lists labels labels-small
 
-  tidy-form-short : length (tidyForm text) ≤ 1020
-  tidy-form-short = let (b, some, few) = sound→baxter labels (k .sound) in omega (arith, tidy-length labels labels-small some)
+  tidy-form-short : length (tidyForm text) ≤ 912
+  tidy-form-short = let (b, some, few) = sound→baxter labels (k .sound) in omega (arith, sound-tidy-size labels (k .sound))
 
   tidy-form-labels : labelsIn (tidyForm text) ≡ labelsIn text
   tidy-form-labels = labels-are-listed (tidyForm text) labels (omega (arith, tidy-form-short)) tidy-form-lists
@@ -117,9 +118,10 @@ module _ {text before after : List ℕ} {n : ℕ} (did : Tidied text before (Wro
       ap (take n) (did .left) ∙ ap (λ (m : ℕ). take m (tidyForm text ++ drop n before)) (accepts .1)
       ∙ take-append-seam (tidyForm text) _
 
-  -- a slice of four bytes for each of 255 labels is long enough for every text
-  pub wrote-at-most-1020 : n ≤ 1020
-  wrote-at-most-1020 = omega (arith, accepts .1, tidy-form-short (accepts .0))
+  -- a slice of 912 bytes is long enough for every text: two for each of 255 labels, one more for each of the 246 above 9, and one
+  -- more for each of the 156 above 99
+  pub wrote-at-most-912 : n ≤ 912
+  wrote-at-most-912 = omega (arith, accepts .1, tidy-form-short (accepts .0))
 
 -- the unique-code rule, of the bytes that two calls leave
 pub m100-same-bytes-iff-equivalent : (text other before after other-before other-after : List ℕ) (n m : ℕ)

@@ -2,7 +2,7 @@
 -- reader stands (`Shape`).
 use mathlib.Core.List.{List, [], _∷_, _++_, append-nil, append-assoc}
 use mathlib.Core.Path.{_≡_, refl, ap, subst, sym, _∙_}
-use Prim.Native.Nat.{ℕ, zero, suc, _+_, _<_}
+use Prim.Native.Nat.{ℕ, zero, suc, _<_}
 use Rattle.digits.specs.Decimal as byte
 use Rattle.labeltext.specs.Form as form
 use Rattle.labeltext.specs.Form.{spaces, Number, Between, some-spaces, one-comma, After, Line}

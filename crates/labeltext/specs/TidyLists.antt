@@ -1,11 +1,11 @@
 -- The tidy text of a list keeps the form and lists it: its numbers have one to three digits, and one space stands between them.
 use mathlib.Core.List.{List, [], _∷_}
 use mathlib.Core.Path.{_≡_, sym, subst}
-use Prim.Native.Nat.{ℕ, suc, _+_, _*_, _/_, _%_, _≤_, _<_}
+use Prim.Native.Nat.{ℕ, suc, _+_, _*_, _/_, _%_, _<_}
 use native.Mathlib.Decide.{decLt}
 use native.Mathlib.Omega.{arith}
-use lib.ListN.{length, getD, length-append}
-use Rattle.digits.specs.Decimal.{newline, decimal}
+use lib.ListN.{length, getD}
+use Rattle.digits.specs.Decimal.{decimal}
 use Rattle.digits.specs.Digits.{decimal-one, decimal-two, decimal-three}
 use Rattle.labeltext.specs.Form as form
 use Rattle.labeltext.specs.Form.{Number, After, Line, Lists, some-spaces}
@@ -50,24 +50,3 @@ tidy-line (number ∷ numbers) (h, s) = form.some 0 (decimal-number number h) (r
 
 pub tidy-lists : (numbers : List ℕ) → Small numbers → Lists (tidyText numbers) numbers
 tidy-lists numbers s = form.ended (tidy-line numbers s)
-
--- ---- and has at most four bytes for each
-number-length : {word : List ℕ} {number : ℕ} → Number word number → length word ≤ 3
-number-length (form.one a h) = omega arith
-number-length (form.two a b h k) = omega arith
-number-length (form.three a b c h k l) = omega arith
-
-rest-length : (numbers : List ℕ) → Small numbers → length (tidyRest numbers) ≤ 4 * length numbers
-unfolding tidyRest
-rest-length [] s = omega arith
-rest-length (number ∷ numbers) (h, s) =
-    omega (arith, length-append (decimal number) (tidyRest numbers), number-length (decimal-number number h), rest-length numbers s)
-
-line-length : (numbers : List ℕ) → Small numbers → 1 ≤ length numbers → length (tidyLine numbers) + 1 ≤ 4 * length numbers
-unfolding tidyLine
-line-length [] s some = absurd (omega arith)
-line-length (number ∷ numbers) (h, s) some =
-    omega (arith, length-append (decimal number) (tidyRest numbers), number-length (decimal-number number h), rest-length numbers s)
-
-pub tidy-length : (numbers : List ℕ) → Small numbers → 1 ≤ length numbers → length (tidyText numbers) ≤ 4 * length numbers
-tidy-length numbers s some = omega (arith, length-append (tidyLine numbers) (newline ∷ []), line-length numbers s some)

@@ -21,9 +21,9 @@ pub data Shown : Type 0 where
   tidied : List ℕ → Shown
   refusal : ℕ → Shown
 
--- the tidy form that a slice of 1,020 bytes gets, or the refusal's number
+-- the tidy form that a slice of 912 bytes gets, or the refusal's number
 abbrev pub answer : String → Shown
-answer text = show (tidyAnswer (ascii text) 1020)
+answer text = show (tidyAnswer (ascii text) 912)
   where
     show : TidyAnswer → Shown
     show (Wrote size) = tidied (tidyForm (ascii text))

@@ -2,7 +2,7 @@
 use mathlib.Core.List.{List, [], _∷_}
 use mathlib.Core.Logic.{_≢_, _⊎_, inl, inr}
 use mathlib.Core.Path.{_≡_, refl, sym, ap, subst, _∙_}
-use Prim.Native.Nat.{ℕ, suc, _+_, _≤_, _<_}
+use Prim.Native.Nat.{ℕ, _+_, _≤_, _<_}
 use native.Mathlib.Numerals.{add-one}
 use native.Mathlib.Omega.{arith}
 use lib.ListN.{length, getD, set, drop, length-set, List·getD-eq-default, drop-of-length-le}
@@ -11,7 +11,7 @@ use Rattle.labeltext.specs.Symbol.{symbolOf, symbol-is}
 use Rattle.labeltext.specs.Reader.{State, start, one, two, three, spaced, listed, broken, next, run, Done, numbersOf, broken-run}
 use Rattle.numbers.specs.Places.{placeOf, placeAfter, beginsAt, Standing, Reached}
 use Rattle.numbers.specs.Number.{asByte}
-use Rattle.numbers.specs.Store.{Starts, Labelled, Stores, ListedAs}
+use Rattle.numbers.specs.Store.{Starts, Labelled, ListedAs}
 use Rattle.numbers.proofs.Turns.{Fine, row-next, place-small, Turn, begins, grows, passes, breaks, turn}
 use Rattle.numbers.proofs.Begun.{Begun, none-begun, all-ended, Course, going, lost, turned}
 

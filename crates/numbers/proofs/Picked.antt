@@ -1,5 +1,5 @@
 -- The number that three bytes begin with, picked from three by products of bits.
-use mathlib.Core.Logic.{ite, if-pos, if-neg}
+use mathlib.Core.Logic.{if-pos, if-neg}
 use mathlib.Core.Path.{_≡_, sym, _∙_}
 use Prim.Native.Nat.{ℕ, _+_, _*_, _-_, _%_, _≤_, _<_}
 use native.Mathlib.Decide.{decLt}

@@ -1,53 +1,14 @@
 -- A tidy text as it is put: each label with a space after it, and then the newline in the place of the last space.
-use mathlib.Core.List.{List, [], _∷_, _++_, append-nil, append-assoc}
+use mathlib.Core.List.{List, [], _∷_, _++_}
 use mathlib.Core.Path.{_≡_, refl, sym, ap, _∙_}
 use Prim.Native.Nat.{ℕ, suc, _+_, _-_, _≤_, _<_}
 use native.Mathlib.Numerals.{add-one}
 use native.Mathlib.Omega.{arith}
 use lib.ListN.{length, getD, set, take, drop, length-append, take-append-drop}
-use lib.Seq.{take-suc, take-length, append-snoc, set-at, sets, sets-eq, length-sets}
-use Rattle.digits.specs.Decimal.{space, newline, decimal, field}
-use Rattle.labeltext.specs.Tidy.{tidyRest, tidyLine, tidyText}
-
--- each label with a space after it
-abbrev pub fields : List ℕ → List ℕ
-fields [] = []
-fields (label ∷ labels) = field label space ++ fields labels
-
-fields-append : (labels more : List ℕ) → fields (labels ++ more) ≡ fields labels ++ fields more
-fields-append [] more = refl
-fields-append (label ∷ labels) more =
-    ap (λ (l : List ℕ). field label space ++ l) (fields-append labels more)
-    ∙ sym (append-assoc (field label space) (fields labels) (fields more))
-
--- those of the first k labels, and the next one
-pub fields-next : (labels : List ℕ) (k : ℕ) → k < length labels
-    → fields (take (suc k) labels) ≡ fields (take k labels) ++ field (getD labels k 0) space
-fields-next labels k h =
-    ap fields (take-suc labels k 0 h) ∙ fields-append (take k labels) (getD labels k 0 ∷ [])
-    ∙ ap (λ (l : List ℕ). fields (take k labels) ++ l) (append-nil (field (getD labels k 0) space))
-
--- ---- they are the tidy text but for its last byte
-rest-fields : (labels : List ℕ) → tidyRest labels ++ (space ∷ []) ≡ space ∷ fields labels
-unfolding tidyRest
-rest-fields [] = refl
-rest-fields (label ∷ labels) = ap (λ (l : List ℕ). space ∷ l) (
-    append-assoc (decimal label) (tidyRest labels) (space ∷ [])
-    ∙ ap (λ (l : List ℕ). decimal label ++ l) (rest-fields labels)
-    ∙ sym (append-assoc (decimal label) (space ∷ []) (fields labels))
-    )
-
-pub line-fields : (labels : List ℕ) → 1 ≤ length labels → tidyLine labels ++ (space ∷ []) ≡ fields labels
-unfolding tidyLine
-line-fields [] some = absurd (omega arith)
-line-fields (label ∷ labels) some =
-    append-assoc (decimal label) (tidyRest labels) (space ∷ [])
-    ∙ ap (λ (l : List ℕ). decimal label ++ l) (rest-fields labels)
-    ∙ sym (append-assoc (decimal label) (space ∷ []) (fields labels))
-
-pub fields-size : (labels : List ℕ) → 1 ≤ length labels → length (fields labels) ≡ length (tidyText labels)
-fields-size labels some =
-    omega (arith, ap length (line-fields labels some), length-append (tidyLine labels) (space ∷ []), length-append (tidyLine labels) (newline ∷ []))
+use lib.Seq.{take-length, append-snoc, set-at, sets, sets-eq, length-sets}
+use Rattle.digits.specs.Decimal.{space, newline, field}
+use Rattle.labeltext.specs.Tidy.{tidyLine, tidyText}
+use Rattle.labeltext.specs.TidySize.{fields, fields-append, fields-next, line-fields, fields-size}
 
 pub tidy-some : (labels : List ℕ) → 1 ≤ length (tidyText labels)
 tidy-some labels = omega (arith, length-append (tidyLine labels) (newline ∷ []))

@@ -1,7 +1,7 @@
 // Tidy: a text that lists labels becomes its tidy form, or is refused with 18, 1, 6, 7, 8 or 15, in this order.
 ghost use mathlib.Core.List.{_++_};
 ghost use mathlib.Core.Path.{_≡_};
-ghost use Prim.Native.Nat.{_+_, _≤_, _<_};
+ghost use Prim.Native.Nat.{_+_, _-_, _≤_, _<_};
 ghost use lib.Dec.{ltb};
 ghost use lib.ListN.{length, drop};
 ghost use lib.Seq.{sets};
@@ -9,6 +9,7 @@ ghost use Rattle.bits.specs.Bit.{bit};
 ghost use Rattle.digits.specs.Decimal.{space, field};
 ghost use Rattle.labeltext.specs.LineOf.{lineLength};
 ghost use Rattle.labeltext.specs.Tidy.{tidyText};
+ghost use Rattle.labeltext.specs.TidySize.{tidySize};
 ghost use Rattle.labeltext.specs.Answer.{Tidied};
 ghost use Rattle.tidy.specs.Digits.{DigitsOf, AllDigits};
 ghost use Rattle.tidy.specs.Labels.{TidiedLabels};
@@ -17,33 +18,20 @@ use labeltext::TidyAnswer;
 use numbers::Reading;
 use record::Refusal;
 
-// 1 where a label is above a number, else 0.
-fn above(label: u8, number: u8) -> u16
-    ensures { λ r. ⌜ (r ≡ bit (ltb number label)) × (r ≤ 1) ⌝ }
+// How many of the labels 1 to n are above a number.
+fn labels_above(n: usize, number: usize) -> usize
+    ensures { λ r. ⌜ r ≡ n - number ⌝ }
 {
-    if number < label { 1 } else { 0 }
+    if number < n { n - number } else { 0 }
 }
 
-// How many bytes a label takes, with the byte after it.
-fn field_size(label: u8) -> u16
-    ensures { λ r. ⌜ (r ≡ length (field label space)) × (r ≤ 4) ⌝ }
+// The length of the tidy text of n labels that are 1 to n, each once: two bytes for each, one more for each above 9, and one more for each
+// above 99. Their order does not matter, so no label is looked at.
+fn tidy_size(n: usize) -> usize
+    requires { ⌜ n ≤ 255 ⌝ }
+    ensures { λ r. ⌜ r ≡ tidySize n ⌝ }
 {
-    2 + above(label, 9) + above(label, 99)
-}
-
-// The length of the tidy text of some labels. It is summed in 16 bits, so that the compiler takes several labels at a time.
-fn tidy_size(labels: &[u8]) -> usize
-    requires { ⌜ (1 ≤ length (now labels)) × (length (now labels) ≤ 255) ⌝ }
-    ensures { λ r. ⌜ r ≡ length (tidyText (now (labels .entry))) ⌝ }
-{
-    let n = labels.len();
-    let mut size = 0;
-    let mut k = 0;
-    while k < n {
-        size += field_size(labels[k]);
-        k += 1;
-    }
-    size as usize
+    2 * n + labels_above(n, 9) + labels_above(n, 99)
 }
 
 // The three digits of each label. They are found before any is put: no label waits for where the one before it ends, and the compiler takes
@@ -63,6 +51,13 @@ fn all_digits(labels: &[u8], hundreds: &mut [u8; 255], tens: &mut [u8; 255], one
     }
 }
 
+// 1 where a label is above a number, else 0.
+fn above(label: u8, number: u8) -> usize
+    ensures { λ r. ⌜ (r ≡ bit (ltb number label)) × (r ≤ 1) ⌝ }
+{
+    if number < label { 1 } else { 0 }
+}
+
 // Puts a label, by its three digits, and a space after it where the text so far ends, and answers where it then ends. A zero in front is
 // put all the same, and the next digit over it: that costs less than to foresee how many digits there are.
 fn put_field(text: &mut [u8], at: usize, label: u8, hundred: u8, ten: u8, one: u8) -> usize
@@ -71,9 +66,9 @@ fn put_field(text: &mut [u8], at: usize, label: u8, hundred: u8, ten: u8, one: u
     ensures next { λ r. ⌜ r ≡ at + length (field label space) ⌝ }
 {
     text[at] = hundred;
-    let second = at + above(label, 99) as usize;
+    let second = at + above(label, 99);
     text[second] = ten;
-    let third = second + above(label, 9) as usize;
+    let third = second + above(label, 9);
     text[third] = one;
     text[third + 1] = b' ';
     third + 2
@@ -108,7 +103,7 @@ fn tidy_labels(labels: &[u8], tidy: &mut [u8]) -> TidyAnswer
     if let Verdict::Refused(refusal) = verdict {
         return TidyAnswer::Refused(refusal);
     }
-    let size = tidy_size(labels);
+    let size = tidy_size(labels.len());
     if tidy.len() < size {
         return TidyAnswer::Refused(Refusal::ShortOutput);
     }

@@ -1,8 +1,8 @@
--- `nenturxo::nenturxo_tidy` meets its contract: the answer of Tidy, as a number. A length is at most 1,020, so it fits.
+-- `nenturxo::nenturxo_tidy` meets its contract: the answer of Tidy, as a number. A length is at most 912, so it fits.
 use mathlib.Core.Path.{sym, ap, _∙_}
 use native.Mathlib.Omega.{arith}
 use borrow.Author.Needs.{needs}
-use Rattle.labeltext.specs.M100.{wrote-at-most-1020}
+use Rattle.labeltext.specs.M100.{wrote-at-most-912}
 use Rattle.nenturxo.specs.Code.{tidyCode}
 use Rattle.nenturxo.proofs.Signed.{small-is, small-fits, refused-is}
 use Rattle.nenturxo.proofs.nenturxo_tidy.Statement.{statement}
@@ -17,7 +17,7 @@ enum-known-size c = search needs
 cast-result : tie.Need-cast-result
 cast-result c =
     let did = rw (c .before .size .given .1) at (c .before .before .before .before .before .tidy .ensures) in
-    small-fits (c .before .size .given .0 .0) (omega (arith, wrote-at-most-1020 did))
+    small-fits (c .before .size .given .0 .0) (omega (arith, wrote-at-most-912 did))
 
 enum-known-refusal : tie.Need-enum-known-refusal
 enum-known-refusal c = search needs
@@ -34,7 +34,7 @@ returns c =
     let did = rw (c .before .size .given .1) at (call .ensures) in
     record {
       answer = call .result;
-      numbered = small-is (c .before .size .given .0 .0) (omega (arith, wrote-at-most-1020 did)) ∙ ap tidyCode (sym (c .before .size .given .1));
+      numbered = small-is (c .before .size .given .0 .0) (omega (arith, wrote-at-most-912 did)) ∙ ap tidyCode (sym (c .before .size .given .1));
       did = call .ensures;
     }
 

@@ -1,6 +1,4 @@
 -- `numbers::last_place` meets its contract: what is reached from the next byte on is reached from this one on.
-use mathlib.Core.List.{List}
-use mathlib.Core.Path.{_≡_}
 use Prim.Native.Nat.{ℕ, _-_, _≤_}
 use native.Mathlib.Omega.{arith}
 use lib.ListN.{length, getD, drop}

@@ -3,7 +3,8 @@ use mathlib.Core.Path.{refl}
 use native.Mathlib.Omega.{arith}
 use lib.ListN.{length-set}
 use borrow.Author.Needs.{needs}
-use Rattle.tidy.proofs.Digits.{field-size, digits-put}
+use Rattle.labeltext.specs.TidySize.{field-size}
+use Rattle.tidy.proofs.Digits.{digits-put}
 use Rattle.tidy.proofs.put_field.Statement.{statement}
 use Rattle.tidy.proofs.put_field.Tie as tie
 
@@ -12,9 +13,6 @@ slice-write-text c = let s = c .before in omega (arith, s .pre .0, field-size (s
 
 above-requires : tie.Need-above-requires
 above-requires c κs = search needs
-
-cast-second : tie.Need-cast-second
-cast-second c = search needs
 
 add-second : tie.Need-add-second
 add-second c = search needs
@@ -26,9 +24,6 @@ slice-write-text-2 c =
 
 above-requires-2 : tie.Need-above-requires-2
 above-requires-2 c κs = search needs
-
-cast-third : tie.Need-cast-third
-cast-third c = search needs
 
 add-third : tie.Need-add-third
 add-third c = search needs
@@ -68,11 +63,9 @@ put-field-spec =
     (tie.spec
     slice-write-text
     above-requires
-    cast-second
     add-second
     slice-write-text-2
     above-requires-2
-    cast-third
     add-third
     slice-write-text-3
     add-text

@@ -6,7 +6,8 @@ use native.Mathlib.Omega.{arith}
 use lib.ListN.{length, length-set}
 use borrow.Author.Needs.{needs}
 use Rattle.labeltext.specs.Tidy.{tidyText}
-use Rattle.tidy.proofs.Fields.{Putting, put-size, none-put, label-put, fields-fit, fields-size, tidy-some, all-size, all-put}
+use Rattle.labeltext.specs.TidySize.{fields-size}
+use Rattle.tidy.proofs.Fields.{Putting, put-size, none-put, label-put, fields-fit, tidy-some, all-size, all-put}
 use Rattle.tidy.proofs.put_labels.Statement.{statement}
 use Rattle.tidy.proofs.put_labels.Tie as tie
 use Rattle.tidy.proofs.put_labels.Reads as reads

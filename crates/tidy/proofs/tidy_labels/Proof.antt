@@ -1,9 +1,11 @@
--- `tidy::tidy_labels` meets its contract: the labels are judged, and written where they are sound and there is the room.
+-- `tidy::tidy_labels` meets its contract: the labels are judged, and written where they are sound and there is the room. How much
+-- that is, the count of sound labels tells.
 use mathlib.Core.Path.{sym, _∙_}
 use native.Mathlib.Omega.{arith}
 use borrow.Author.Needs.{needs}
 use Rattle.record.specs.Judged.{Sound}
 use Rattle.record.specs.Demand2.{sound→baxter}
+use Rattle.labeltext.specs.TidySize.{sound-tidy-size}
 use Rattle.labels.specs.Verdicts.{verdict-refused, verdict-sound}
 use Rattle.tidy.proofs.Labels.{refused-tidied, short-tidied, wrote-tidied}
 use Rattle.tidy.proofs.tidy_labels.Statement.{statement}
@@ -33,16 +35,21 @@ enum-told : tie.Need-enum-told
 enum-told c = search needs
 
 tidy-size-requires : tie.Need-tidy-size-requires
-tidy-size-requires c κs = let s = sound→baxter (c .before .before .before .before .before .args .labels .now) (sound c) in (s .1, s .2)
+tidy-size-requires c κs = sound→baxter (c .before .before .before .before .before .args .labels .now) (sound c) .2
 
 returns-2 : tie.Need-returns-2
-returns-2 c = let a = c .before .before .before .before .before .before .before .args in short-tidied (a .labels .now) (a .tidy .now) (sound (c .before .before)) (omega (arith, c .before .tidy-size .ensures, c .if1 .taken))
+returns-2 c =
+    let a = c .before .before .before .before .before .before .before .args in
+    let all = sound (c .before .before) in
+    short-tidied (a .labels .now) (a .tidy .now) all
+    (omega (arith, c .before .tidy-size .ensures, sound-tidy-size (a .labels .now) all, c .if1 .taken))
 
 put-labels-requires : tie.Need-put-labels-requires
 put-labels-requires c κs =
     let e = c .before .before .before in
-    let s = sound→baxter (e .before .before .before .before .before .args .labels .now) (sound e) in
-    (s .1, s .2, omega (arith, c .before .before .tidy-size .ensures, c .before .if1 .left))
+    let labels = e .before .before .before .before .before .args .labels .now in
+    let s = sound→baxter labels (sound e) in
+    (s .1, s .2, omega (arith, c .before .before .tidy-size .ensures, sound-tidy-size labels (sound e), c .before .if1 .left))
 
 same-length : tie.Need-same-length
 same-length c = search needs
@@ -51,7 +58,9 @@ returns-3 : tie.Need-returns-3
 returns-3 c =
     let z = c .before .before .before .before .before in
     let a = c .before .before .before .before .before .before .before .before .before .before .before .args in
-    wrote-tidied (a .labels .now) (a .tidy .now) (sound (z .before)) (z .tidy-size .ensures) (omega (arith, c .before .before .before .before .if1 .left)) (c .before .before .put-labels .ensures)
+    let all = sound (z .before) in
+    wrote-tidied (a .labels .now) (a .tidy .now) all (z .tidy-size .ensures ∙ sym (sound-tidy-size (a .labels .now) all))
+    (omega (arith, c .before .before .before .before .if1 .left)) (c .before .before .put-labels .ensures)
 
 pub tidy-labels-spec : {M : Type 1} → statement M
 tidy-labels-spec =
