@@ -27,6 +27,11 @@ const START: u64 = 32;
 const COMMA: u64 = 48;
 
 // For each kind of byte a row: the eight bits of the row from a place on are the place that follows it.
+//
+//            broken 0   one 8   two 16   three 24   start 32   spaces 40   comma 48
+// a digit           0      16       24          0          8           8          8
+// a space           0      40       40         40         32          40         48
+// a comma           0      48       48         48          0          48          0
 const AFTER_DIGIT: u64 = 0x0008_0808_0018_1000;
 
 const AFTER_SPACE: u64 = 0x0030_2820_2828_2800;
