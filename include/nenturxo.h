@@ -118,8 +118,10 @@ int32_t nenturxo_record_in(const uint8_t *record, size_t length,
                            uint16_t *top, size_t top_capacity);
 
 /* The question: how the room at position `first` of a record stands to the
- * one at position `second`, and whether the two touch, that is, share a piece
- * of edge in the grid drawing.
+ * one at position `second`, and whether the two touch, that is, whether one
+ * segment that is not an outline side supports both, from the same side or
+ * from opposite sides. The answer is the same for every floorplan that has
+ * the record.
  *
  * Gives an enum nenturxo_relation, and NENTURXO_TOUCH more where they touch.
  * Refusals, in this order: 9, 10, 11, 14, 12, 13, 16, 17. */

@@ -1,4 +1,3 @@
 -- The laws that the proofs of the functions cite.
-pub mod Tell
 pub mod Scan
 pub mod Places

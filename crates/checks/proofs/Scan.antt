@@ -7,12 +7,11 @@ use native.Mathlib.Numerals.{add-one}
 use native.Mathlib.Omega.{arith}
 use lib.Bits.{bitOr}
 use lib.Dec.{eqb}
-use Rattle.finite.specs.Decide.{Tells, eq-or-ne}
+use Rattle.finite.specs.Decide.{Tells, eq-or-ne, tells-equal, tells-iff}
 use Rattle.finite.specs.Search.{Some}
 use Rattle.finite.specs.Sum.{sum}
 use Rattle.checks.specs.Marks.{Marks}
 use Rattle.finite.specs.SumBelow.{sum-next}
-use Rattle.checks.proofs.Tell.{equal-tells}
 
 -- ---- bits that mark statements
 pub marks-le : {A : Type 0} {a : ℕ} → Marks a A → a ≤ 1
@@ -54,7 +53,7 @@ module _ (P : ℕ → Type 0) where
   marks-more n found here (inr (e, none)) (inr (g, q)) = inr (rw (e, g), none-here n none q)
 
   pub marks-tell : (n i found : ℕ) → i ≡ n → Marks found (Some P 0 i) → Tells (eqb found 1) (Some P 0 n)
-  marks-tell n i found e marks = equal-tells (Some P 0 n) found 1 (there marks) (back marks)
+  marks-tell n i found e marks = tells-iff (found ≡ 1) (Some P 0 n) (eqb found 1) (there marks) (back marks) (tells-equal found 1)
     where
       there : Marks found (Some P 0 i) → found ≡ 1 → Some P 0 n
       there (inl (one, s)) set = rw e at s

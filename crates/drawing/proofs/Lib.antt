@@ -1,2 +1,2 @@
 -- The laws that the proofs of the functions cite.
-pub mod Tell
+pub mod Cases

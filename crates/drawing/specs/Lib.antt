@@ -1,9 +1,9 @@
 -- Definitions, in the sheet's words
 pub mod Drawing
 pub mod Relation
-pub mod Touch
--- What the code writes
+-- What the code writes, and what it asks of two rooms
 pub mod Corners
+pub mod InnerLine
 -- Theorems, and what they rest on
 pub mod Nearest
 pub mod Walked

@@ -8,9 +8,8 @@ use Rattle.record.specs.Labels.{labelAt}
 use Rattle.record.specs.Causes.{dec-barred}
 use Rattle.drawing.specs.declared.Room.{Room}
 use Rattle.drawing.specs.declared.Relation.the-variants.{Left, Right, Above, Below}
-use Rattle.drawing.specs.Drawing.{lastBefore, firstLater, roomAt, drawingOf}
+use Rattle.drawing.specs.Drawing.{drawingOf}
 use Rattle.drawing.specs.Relation.{relationOf}
-use Rattle.drawing.specs.Touch.{dec-touch}
 
 abbrev worked : List ℕ
 worked = 4 ∷ 1 ∷ 3 ∷ 5 ∷ 2 ∷ []
@@ -26,12 +25,6 @@ worked-rooms = refl
 worked-relations : let of = relationOf (labelAt worked) in (of 1 4 ≡ Left) × (of 4 1 ≡ Right) × (of 1 2 ≡ Below) × (of 2 1 ≡ Above)
 unfolding relationOf
 worked-relations = (refl, refl, refl, refl)
-
--- a common top and bottom, a common side, and two rooms apart
-worked-touches : let at = roomAt (labelAt worked) 5 in
-    (holds (dec-touch (at 1) (at 2)) ≡ true) × (holds (dec-touch (at 3) (at 2)) ≡ true) × (holds (dec-touch (at 2) (at 4)) ≡ false)
-unfolding holds dec-touch lastBefore firstLater
-worked-touches = (refl, refl, refl)
 
 -- "2 4 1 3 and 3 4 1 2 have the same grid drawing, yet only the second is Baxter"
 one-drawing : drawingOf (2 ∷ 4 ∷ 1 ∷ 3 ∷ []) ≡ drawingOf (3 ∷ 4 ∷ 1 ∷ 2 ∷ [])

@@ -6,7 +6,7 @@ ghost use lib.ListN.{length};
 ghost use Rattle.finite.specs.Decide.{Tells};
 ghost use Rattle.record.specs.Labels.{labelAt};
 ghost use Rattle.drawing.specs.Relation.{relationOf};
-ghost use Rattle.drawing.specs.Touch.{Overlap, SideBySide, Stacked, Touch};
+ghost use Rattle.drawing.specs.InnerLine.{InnerLineOf, ShareInnerLine};
 use record::Position;
 
 // "A room is four unsigned 16-bit numbers: left, bottom, right, top. Right is greater
@@ -57,47 +57,22 @@ pub fn relation_of(labels: &[u8], first: Position, second: Position) -> Relation
     Relation::Above
 }
 
-// Whether the stretches from `a` to `b` and from `c` to `d` have a piece of length 1 or more in common.
-fn overlap(a: u16, b: u16, c: u16, d: u16) -> bool
-    ensures { λ r. ⌜ Tells r (Overlap a b c d) ⌝ }
+// Whether x is one of the lines within the outline of n rooms, 1 to n - 1, and is the line c or the line d. All of it is looked at, since
+// no jump here can be foreseen.
+fn inner_line_of(n: usize, c: u16, d: u16, x: u16) -> bool
+    ensures { λ r. ⌜ Tells r (InnerLineOf n c d x) ⌝ }
 {
-    let start = if a < c { c } else { a };
-    let end = if b < d { b } else { d };
-    start < end
+    (0 < x) & (((x as usize) < n) & ((x == c) | (x == d)))
 }
 
-// Whether one's right is the other's left, with a piece of these edges in common.
-fn side_by_side(first: Room, second: Room) -> bool
-    ensures { λ r. ⌜ Tells r (SideBySide first second) ⌝ }
+// Whether two rooms of the drawing of n rooms share a line within the outline: an upright one with the left or the right edge of each
+// on it, or a flat one with the bottom or the top edge of each. Such a line has one segment, so this tells whether the two touch.
+pub fn share_inner_line(n: usize, first: Room, second: Room) -> bool
+    ensures { λ r. ⌜ Tells r (ShareInnerLine n first second) ⌝ }
 {
-    if first.right == second.left {
-        return overlap(first.bottom, first.top, second.bottom, second.top);
-    }
-    if second.right == first.left {
-        return overlap(first.bottom, first.top, second.bottom, second.top);
-    }
-    false
-}
-
-// Whether one's top is the other's bottom, with a piece of these edges in common.
-fn stacked(first: Room, second: Room) -> bool
-    ensures { λ r. ⌜ Tells r (Stacked first second) ⌝ }
-{
-    if first.top == second.bottom {
-        return overlap(first.left, first.right, second.left, second.right);
-    }
-    if second.top == first.bottom {
-        return overlap(first.left, first.right, second.left, second.right);
-    }
-    false
-}
-
-// Whether two rooms share a piece of edge of length 1 or more.
-pub fn touch(first: Room, second: Room) -> bool
-    ensures { λ r. ⌜ Tells r (Touch first second) ⌝ }
-{
-    if side_by_side(first, second) {
-        return true;
-    }
-    stacked(first, second)
+    let left = inner_line_of(n, second.left, second.right, first.left);
+    let right = inner_line_of(n, second.left, second.right, first.right);
+    let bottom = inner_line_of(n, second.bottom, second.top, first.bottom);
+    let top = inner_line_of(n, second.bottom, second.top, first.top);
+    (left | right) | (bottom | top)
 }

@@ -1,10 +1,12 @@
 -- Deciding a statement: combinations of decided statements, and a Bool that tells which way a decision went.
 use mathlib.Core.Path.{_≡_, refl}
 use mathlib.Core.Logic.{_≢_, _⊎_, inl, inr}
-use mathlib.Core.Bool.{Bool, true, false}
+use mathlib.Core.Bool.{Bool, true, false, _&&_, _||_}
 use Prim.Native.Nat.{ℕ, _≤_, _<_}
 use native.Mathlib.Omega.{arith}
 use native.Mathlib.Decide.{decLe, ℕ-discrete}
+use borrow.Author.Tests.{eqb-true, eqb-false, ltb-true, ltb-false}
+use lib.Dec.{eqb, ltb}
 
 -- ---- case distinctions
 unfoldable pub le-or-lt : (a b : ℕ) → (a ≤ b) ⊎ (b < a)
@@ -75,6 +77,37 @@ pub holds-tells : {A : Type 0} (d : Dec A) → Tells (holds d) A
 unfolding holds
 holds-tells (yes a) = a
 holds-tells (no h) = h
+
+-- what a Bool tells of a statement it tells of any that holds just where that does
+pub tells-iff : (A B : Type 0) (t : Bool) → (A → B) → (B → A) → Tells t A → Tells t B
+tells-iff A B true f g h = f h
+tells-iff A B false f g h = λ b. h (g b)
+
+-- comparisons tell whether they hold
+pub tells-equal : (a b : ℕ) → Tells (eqb a b) (a ≡ b)
+tells-equal a b = go (eqb a b) refl
+  where
+    go : (t : Bool) → eqb a b ≡ t → Tells t (a ≡ b)
+    go true e = eqb-true a b e
+    go false e = eqb-false a b e
+
+pub tells-less : (a b : ℕ) → Tells (ltb a b) (a < b)
+tells-less a b = go (ltb a b) refl
+  where
+    go : (t : Bool) → ltb a b ≡ t → Tells t (a < b)
+    go true e = ltb-true a b e
+    go false e = λ h. omega (arith, ltb-false a b e)
+
+-- two Bools tell of both statements, and of either
+pub tells-both : (A B : Type 0) (s t : Bool) → Tells s A → Tells t B → Tells (s && t) (A × B)
+tells-both A B true true a b = (a, b)
+tells-both A B true false a b = λ p. b (p .1)
+tells-both A B false t a b = λ p. a (p .0)
+
+pub tells-either : (A B : Type 0) (s t : Bool) → Tells s A → Tells t B → Tells (s || t) (A ⊎ B)
+tells-either A B true t a b = inl a
+tells-either A B false true a b = inr b
+tells-either A B false false a b = λ p. elim p [ inl h ↦ a h | inr h ↦ b h ]
 
 -- a Bool that is known
 pub told-true : (A : Type 0) (t : Bool) → t ≡ true → Tells t A → A

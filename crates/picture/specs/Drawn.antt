@@ -10,12 +10,13 @@ use Rattle.drawing.specs.declared.Room.{Room}
 use Rattle.drawing.specs.Drawing.{roomAt}
 use Rattle.drawing.specs.Squares.{covers-own, room-inside}
 use Rattle.drawing.specs.Corners.{roomIn}
+use Rattle.contacts.specs.GridLine.{lineBetween}
 use Rattle.answers.specs.declared.RecordAnswer.the-variants.{Read}
 use Rattle.digits.specs.Ascii.{ascii}
 use Rattle.text.specs.Put.{Put}
 use Rattle.text.specs.Puts.{put-none, put-more, put-as}
 use Rattle.text.specs.Viewed.{Local, Written, room-read}
-use Rattle.shapes.specs.Picture.{rectangle, names, roomsDrawn, segment, segmentsDrawn, head, picture}
+use Rattle.shapes.specs.Picture.{rectangle, names, roomsDrawn, segmentDrawn, segmentsDrawn, head, picture}
 use Rattle.shapes.specs.Within.{Within}
 
 module _ (label : ℕ → ℕ) (room : ℕ → Room) (n : ℕ) where
@@ -47,13 +48,13 @@ module _ (label : ℕ → ℕ) (room : ℕ → Room) (n : ℕ) where
   -- a turn puts the segment after the next position, which is k + 1
   pub one-segment : {before middle after : List ℕ} {start at end : ℕ} (k : ℕ) {earlier later : Room}
       → earlier ≡ room (suc k) → later ≡ room (suc (k + 1)) → Put before start (segmentsDrawn label room n k) middle at
-      → Put middle at (segment n (k + 1) (label (suc k)) (label (suc (k + 1))) earlier later) after end
+      → Put middle at (segmentDrawn n (lineBetween (k + 1) (label (suc k)) (label (suc (k + 1))) earlier later)) after end
       → Put before start (segmentsDrawn label room n (k + 1)) after end
   unfolding segmentsDrawn
   one-segment k is next p q =
       let then = next ∙ ap (λ (j : ℕ). room (suc j)) (add-one k) in
       put-as (ap (λ (j : ℕ). segmentsDrawn label room n j) (sym (add-one k)))
-      (put-more p (put-as (λ t. segment n (add-one k t) (label (suc k)) (label (suc (add-one k t))) (is t) (then t)) q))
+      (put-more p (put-as (λ t. segmentDrawn n (lineBetween (add-one k t) (label (suc k)) (label (suc (add-one k t))) (is t) (then t))) q))
 
   -- after the last turn
   pub all-segments : {before after : List ℕ} {start at k : ℕ} → k ≡ n - 1
@@ -87,7 +88,7 @@ module _ (label other : ℕ → ℕ) (room another : ℕ → Room) (n : ℕ)
   segments-same zero l = refl
   segments-same (suc k) l = λ t.
       segments-same k (omega arith) t
-      ++ segment n (suc k) (h k (omega arith) t) (h (suc k) (omega arith) t) (g k (omega arith) t) (g (suc k) (omega arith) t)
+      ++ segmentDrawn n (lineBetween (suc k) (h k (omega arith) t) (h (suc k) (omega arith) t) (g k (omega arith) t) (g (suc k) (omega arith) t))
 
 pub picture-local : Local picture
 picture-local label other room another n h g =

@@ -1,4 +1,5 @@
--- What the question answers. "Order: records 9, 10, 11, 14, 12, 13, then 16 and 17 for a question."
+-- What the question answers: "for a record and two positions, .. the relation (left, right, above, below) of the first to the second and
+-- whether they touch". "Order: records 9, 10, 11, 14, 12, 13, then 16 and 17 for a question."
 use mathlib.Core.List.{List}
 use mathlib.Core.Logic.{_⊎_, ite}
 use mathlib.Core.Path.{_≡_}
@@ -9,9 +10,8 @@ use Rattle.record.specs.Labels.{labelAt}
 use Rattle.record.specs.Read.{kindOf, labelsOf}
 use Rattle.record.specs.Checked.{checked}
 use Rattle.record.specs.declared.Refusal.the-variants.{PositionOutside, SamePosition}
-use Rattle.drawing.specs.Drawing.{roomAt}
 use Rattle.drawing.specs.Relation.{relationOf}
-use Rattle.drawing.specs.Touch.{dec-touch}
+use Rattle.contacts.specs.DecideTouches.{dec-positions-touch}
 use Rattle.questions.specs.declared.QuestionAnswer.{QuestionAnswer}
 use Rattle.questions.specs.declared.QuestionAnswer.the-variants.{Related, Refused}
 
@@ -27,9 +27,8 @@ dec-outside first second n =
 -- the answer for a record and two positions
 abbrev pub questionAnswer : List ℕ → (first second : ℕ) → QuestionAnswer
 questionAnswer bytes first second =
-    let n = kindOf bytes in
-    let f = labelAt (labelsOf bytes) in
+    let labels = labelsOf bytes in
     checked Refused bytes
-    (ite (dec-outside first second n) (Refused PositionOutside)
+    (ite (dec-outside first second (kindOf bytes)) (Refused PositionOutside)
     (ite (ℕ-discrete first second) (Refused SamePosition)
-    (Related (relationOf f first second) (holds (dec-touch (roomAt f n first) (roomAt f n second))))))
+    (Related (relationOf (labelAt labels) first second) (holds (dec-positions-touch labels first second)))))

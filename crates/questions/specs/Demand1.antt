@@ -12,16 +12,12 @@ use Rattle.record.specs.Read.{kindOf, labelsOf}
 use Rattle.record.specs.Checked.{Readable, Refuses, checked-has, refused-checked, readable-checked}
 use Rattle.record.specs.declared.Refusal.{Refusal}
 use Rattle.record.specs.declared.Refusal.the-variants.{PositionOutside, SamePosition}
-use Rattle.drawing.specs.Drawing.{roomAt}
 use Rattle.drawing.specs.Relation.{relationOf}
-use Rattle.drawing.specs.Touch.{Touch, dec-touch}
+use Rattle.contacts.specs.Touches.{PositionsTouch}
+use Rattle.contacts.specs.DecideTouches.{dec-positions-touch}
 use Rattle.questions.specs.Answer.{Outside, dec-outside, questionAnswer}
 use Rattle.questions.specs.declared.QuestionAnswer.{QuestionAnswer}
 use Rattle.questions.specs.declared.QuestionAnswer.the-variants.{Related, Refused}
-
--- how the room at position `first` stands to the one at `second` in the drawing of the record, and whether they touch
-abbrev pub Touching : (bytes : List ℕ) (first second : ℕ) → Type 0
-Touching bytes first second = let f = labelAt (labelsOf bytes) in Touch (roomAt f (kindOf bytes) first) (roomAt f (kindOf bytes) second)
 
 pub data QuestionSays (bytes : List ℕ) (first second : ℕ) : QuestionAnswer → Type 0 where
   refused-record : {refusal : Refusal} → Refuses bytes refusal → QuestionSays bytes first second (Refused refusal)
@@ -30,15 +26,15 @@ pub data QuestionSays (bytes : List ℕ) (first second : ℕ) : QuestionAnswer �
   same : Readable bytes → ¬ (Outside first (kindOf bytes) ⊎ Outside second (kindOf bytes)) → first ≡ second
       → QuestionSays bytes first second (Refused SamePosition)
   related : {touch : Bool} → Readable bytes → ¬ (Outside first (kindOf bytes) ⊎ Outside second (kindOf bytes)) → first ≢ second
-      → Tells touch (Touching bytes first second)
+      → Tells touch (PositionsTouch (labelsOf bytes) first second)
       → QuestionSays bytes first second (Related (relationOf (labelAt (labelsOf bytes)) first second) touch)
 
 module _ (bytes : List ℕ) (first second : ℕ) where
   abbrev f : ℕ → ℕ
   f = labelAt (labelsOf bytes)
 
-  abbrev touching : Dec (Touching bytes first second)
-  touching = dec-touch (roomAt f (kindOf bytes) first) (roomAt f (kindOf bytes) second)
+  abbrev touching : Dec (PositionsTouch (labelsOf bytes) first second)
+  touching = dec-positions-touch (labelsOf bytes) first second
 
   -- each answer has its cause
   pub demand1-question-cause : QuestionSays bytes first second (questionAnswer bytes first second)

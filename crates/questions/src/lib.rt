@@ -96,7 +96,7 @@ pub fn question(record: &[u8], first: u8, second: u8) -> QuestionAnswer
             let relation = drawing::relation_of(&labels, Position(first), Position(second));
             let one = room_at(&left, &bottom, &right, &top, Position(first));
             let other = room_at(&left, &bottom, &right, &top, Position(second));
-            QuestionAnswer::Related(relation, drawing::touch(one, other))
+            QuestionAnswer::Related(relation, drawing::share_inner_line(n, one, other))
         }
     }
 }

@@ -32,6 +32,19 @@ readable-accepted bytes r = go (endOf bytes) (r .runs) (r .one-run)
         let d : q ≡ 0 = omega arith in
         (λ i. counts (e i) (d i))
 
+-- the labels of a record that is read: the only Baxter list that has its triples, and so the only one that has the record
+pub readable-only-list : (bytes : List ℕ) → Readable bytes → OnlyList (tripleIn (bodyOf bytes)) (kindOf bytes) (labelsOf bytes)
+unfolding labelsOf
+readable-only-list bytes r =
+    let some : kindOf bytes ≢ 0 = λ e. r .kind (inr e) in
+    demand2-one-list (tripleIn (bodyOf bytes)) (kindOf bytes) (omega arith) (readable-accepted bytes r)
+
+pub record-of→labels-of : (bytes : List ℕ) → Readable bytes → (labels : List ℕ) → Baxter labels → recordOf labels ≡ bytes
+    → labels ≡ labelsOf bytes
+unfolding recordOf
+record-of→labels-of bytes r labels b e =
+    readable-only-list bytes r .only labels (ap kindOf e) b (λ i l h. record-triple labels i l h ∙ ap (λ (bs : List ℕ). tripleIn (bodyOf bs) i) e)
+
 -- what a record that is read gives: a Baxter list of as many labels as its kind says, whose record it is, and no other list's
 pub record Reads (bytes labels : List ℕ) : Type 0 where
   pub size : length labels ≡ kindOf bytes
@@ -47,8 +60,7 @@ module _ (bytes : List ℕ) (all : Bytes bytes) (r : Readable bytes) where
   some = let z : kindOf bytes ≢ 0 = λ e. r .kind (inr e) in omega arith
 
   one : OnlyList (tripleIn (bodyOf bytes)) n (labelsOf bytes)
-  unfolding labelsOf
-  one = demand2-one-list (tripleIn (bodyOf bytes)) (kindOf bytes) some (readable-accepted bytes r)
+  one = readable-only-list bytes r
 
   long : length (bodyOf bytes) ≡ bodyLength n
   long =
@@ -99,15 +111,12 @@ module _ (bytes : List ℕ) (all : Bytes bytes) (r : Readable bytes) where
   -- "a record gives the only Baxter permutation that has it"
   pub demand2-read-only-list : Reads bytes (labelsOf bytes)
   unfolding recordOf
-  demand2-read-only-list = record { size = one .size; baxter = one .baxter; back = back; only = only }
+  demand2-read-only-list = record { size = one .size; baxter = one .baxter; back = back; only = record-of→labels-of bytes r }
     where
       back : recordOf (labelsOf bytes) ≡ bytes
       back =
           (λ i. one .size i ∷ pack (bodyBit (tripleAt (labelAt (labelsOf bytes))) (one .size i)) (bodyLength (one .size i)))
           ∙ ap (λ (body : List ℕ). n ∷ body) body-back ∙ sym split
-
-      only : (other : List ℕ) → Baxter other → recordOf other ≡ bytes → other ≡ labelsOf bytes
-      only other b e = one .only other (ap kindOf e) b (λ i l h. record-triple other i l h ∙ ap (λ (bs : List ℕ). tripleIn (bodyOf bs) i) e)
 
 -- ---- the record of a Baxter list of at least one label is read
 -- the walk of the same triples

@@ -69,43 +69,57 @@ dec-holds s e = dec-iff
     (λ h. ((h .direction, h .line), (h .from, h .to)))
     (dec-× (dec-× (dec-direction (s .direction) (e .direction)) (ℕ-discrete (s .line) (e .line))) (dec-× (decLe (s .from) (e .from)) (decLe (e .to) (s .to))))
 
--- ---- one segment for two edges: it lies on their line, and ends within the limit
-module _ (rooms : List Room) (e f : Stretch) where
+-- ---- one segment of a kind for two edges: it lies on their line, and ends within the limit
+abbrev pub HoldsBoth : (P : Stretch → Type 0) (e f : Stretch) → Type 0
+HoldsBoth P e f = (s : Stretch) × P s × Holds s e × Holds s f
+
+module _ (rooms : List Room) (P : Stretch → Type 0) (is-segment : (s : Stretch) → P s → Segment rooms s) (d : (s : Stretch) → Dec (P s))
+    (e f : Stretch) where
   abbrev between : ℕ → ℕ → Stretch
   between x y = record { direction = e .direction; line = e .line; from = x; to = y }
 
-  abbrev HoldsBoth : ℕ → ℕ → Type 0
-  HoldsBoth x y = Holds (between x y) e × Holds (between x y) f × Segment rooms (between x y)
+  abbrev BothBetween : ℕ → ℕ → Type 0
+  BothBetween x y = Holds (between x y) e × Holds (between x y) f × P (between x y)
 
-  abbrev SomeHoldsBoth : Type 0
-  SomeHoldsBoth = Some (λ x. Some (HoldsBoth x) 0 (suc (limit rooms))) 0 (limit rooms)
+  abbrev SomeWithinLimit : Type 0
+  SomeWithinLimit = Some (λ x. Some (BothBetween x) 0 (suc (limit rooms))) 0 (limit rooms)
 
-  pub found-within-limit : (s : Stretch) → Segment rooms s → Holds s e → Holds s f → SomeHoldsBoth
-  found-within-limit s g h k =
-      (s .from, zero-le, omega (arith, g .some, end), (s .to, zero-le, omega (arith, end), (subst (λ (t : Stretch). Holds t e) same h, subst (λ (t : Stretch). Holds t f) same k, subst (Segment rooms) same g)))
+  pub found-within-limit : HoldsBoth P e f → SomeWithinLimit
+  found-within-limit (s, p, h, k) = (
+    s .from,
+    zero-le,
+    omega (arith, is-segment s p .some, end),
+    (
+      s .to,
+      zero-le,
+      omega (arith, end),
+      (subst (λ (t : Stretch). Holds t e) same h, subst (λ (t : Stretch). Holds t f) same k, subst P same p),
+    ),
+  )
     where
       same : s ≡ between (s .from) (s .to)
       same = λ i. record { direction = h .direction i; line = h .line i; from = s .from; to = s .to }
 
       end : s .to - 1 < limit rooms
-      end = drawn→before-limit rooms (s .direction) (s .line) (s .to - 1) (g .unbroken (s .to - 1) (omega (arith, g .some)) (omega (arith, g .some)))
+      end = let g = is-segment s p in
+          drawn→before-limit rooms (s .direction) (s .line) (s .to - 1) (g .unbroken (s .to - 1) (omega (arith, g .some)) (omega (arith, g .some)))
 
-  unfoldable dec-some-holds-both : Dec SomeHoldsBoth
-  unfolding dec-×₃ dec-some dec-holds dec-segment limit
-  dec-some-holds-both = dec-some _ (λ x. dec-some (HoldsBoth x) (λ y. dec-×₃ (dec-holds (between x y) e) (dec-holds (between x y) f) (dec-segment rooms (between x y))) 0 (suc (limit rooms))) 0 (limit rooms)
+  -- edges on two lines are not on one segment, and else the limit bounds the search
+  unfoldable pub dec-holds-both : Dec (HoldsBoth P e f)
+  unfolding dec-× dec-×₃ dec-iff dec-some ℕ-discrete dec-holds limit
+  dec-holds-both = dec-iff
+      (λ (line, (x, l, u, (y, m, v, (first, second, p)))). (between x y, p, first, second))
+      (λ both. let (s, p, h, k) = both in (sym (h .line) ∙ k .line, found-within-limit both))
+      (dec-× (ℕ-discrete (e .line) (f .line)) (dec-some _ (λ x. dec-some (BothBetween x)
+      (λ y. dec-×₃ (dec-holds (between x y) e) (dec-holds (between x y) f) (d (between x y))) 0 (suc (limit rooms))) 0 (limit rooms)))
 
 unfoldable pub dec-one-segment : (rooms : List Room) (of-a of-b : Side) (a b : ℕ) → Dec (OneSegment rooms of-a of-b a b)
-unfolding dec-× dec-iff decLt dec-some-holds-both
+unfolding dec-×₃ dec-iff decLt dec-segment dec-holds-both
 dec-one-segment rooms of-a of-b a b = dec-iff
-    (λ h. let (x, l, u, (y, m, v, (first, second, g))) = h .1 .1 in record { a< = h .0 .0; b< = h .0 .1; by = between rooms e f x y; segment = g; holds-a = first; holds-b = second })
-    (λ h. ((h .a<, h .b<), (sym (h .holds-a .line) ∙ h .holds-b .line, found-within-limit rooms e f (h .by) (h .segment) (h .holds-a) (h .holds-b))))
-    (dec-× (dec-× (decLt a (length rooms)) (decLt b (length rooms))) (dec-× (ℕ-discrete (e .line) (f .line)) (dec-some-holds-both rooms e f)))
-  where
-    e : Stretch
-    e = edge of-a (roomIn rooms a)
-
-    f : Stretch
-    f = edge of-b (roomIn rooms b)
+    (λ (ha, hb, (s, g, first, second)). record { a< = ha; b< = hb; by = s; segment = g; holds-a = first; holds-b = second })
+    (λ h. (h .a<, h .b<, (h .by, h .segment, h .holds-a, h .holds-b)))
+    (dec-×₃ (decLt a (length rooms)) (decLt b (length rooms))
+    (dec-holds-both rooms (Segment rooms) (λ s g. g) (dec-segment rooms) (edge of-a (roomIn rooms a)) (edge of-b (roomIn rooms b))))
 
 -- ---- the relations
 unfoldable pub dec-segment-chain : (rooms : List Room) (of-a of-b : Side) (a b : ℕ) → Dec (Chain (OneSegment rooms of-a of-b) a b)

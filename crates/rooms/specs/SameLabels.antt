@@ -47,7 +47,7 @@ module _ (rooms others : List Room) (k : Floorplan (planOf rooms)) (ko : Floorpl
     keeps→label = omega (arith, label-is-rank rooms k a, label-is-rank others ko (there a), keep→rank (strict (label-orders rooms k)) (strict (label-orders others ko)) there (c .there<) keeps-label-order size a h)
 
 -- ---- equivalence keeps direct steps
-equivalent-sym : {rooms others : List Room} → Equivalent rooms others → Equivalent others rooms
+unfoldable pub equivalent-sym : {rooms others : List Room} → Equivalent rooms others → Equivalent others rooms
 equivalent-sym {rooms} {others} e = record {
   pair-rooms = turned-round (e .pair-rooms);
   pair-segments = turned-round (e .pair-segments);
@@ -86,24 +86,28 @@ module _ (rooms others : List Room) (e : Equivalent rooms others) where
     above = λ a b r. chain-map (e .pair-rooms .to) (equivalent→keeps-one-segment bottomEdge topEdge) r;
   }
 
-pub equivalent→same-labels : (rooms others : List Room) → Floorplan (planOf rooms) → Floorplan (planOf others)
-    → Equivalent rooms others → labelList rooms ≡ labelList others
-equivalent→same-labels rooms others k ko e =
-    ext-getD 0 (labelList rooms) (labelList others) (length-label-list rooms k ∙ size ∙ sym (length-label-list others ko))
-    (λ i h. same i (omega (arith, length-label-list rooms k)))
-  where
-    there : ℕ → ℕ
-    there = e .pair-rooms .to
+module _ (rooms others : List Room) (k : Floorplan (planOf rooms)) (ko : Floorplan (planOf others)) (e : Equivalent rooms others) where
+  abbrev there : ℕ → ℕ
+  there = e .pair-rooms .to
 
-    c : KeepsRelations rooms others there
-    c = equivalent→keeps rooms others e
+  keeps : KeepsRelations rooms others there
+  keeps = equivalent→keeps rooms others e
 
-    size : length rooms ≡ length others
-    size = omega (arith, keeps→size rooms others k ko there c, keeps→size others rooms ko k (equivalent-sym e .pair-rooms .to) (equivalent→keeps others rooms (equivalent-sym e)))
+  same-size : length rooms ≡ length others
+  same-size = omega (arith, keeps→size rooms others k ko there keeps, keeps→size others rooms ko k (equivalent-sym e .pair-rooms .to) (equivalent→keeps others rooms (equivalent-sym e)))
 
-    same : (i : ℕ) → i < length rooms → labelAt (labelList rooms) (suc i) ≡ labelAt (labelList others) (suc i)
-    same i h =
-        let (here, at) = room-at-position rooms k (suc i) (omega arith) h in
-        let room = roomAtPosition rooms (suc i) in
-        label-list-at rooms k i h ∙ sym (keeps→label rooms others k ko there c size room here) ∙ sym (label-by-position others ko (there room) (c .there< room here))
-        ∙ ap (labelAt (labelList others)) (keeps→position rooms others k ko there c size room here ∙ at)
+  -- a room and its partner stand at the same position
+  pub equivalent→same-position : (a : ℕ) → a < length rooms → positionOf others (e .pair-rooms .to a) ≡ positionOf rooms a
+  equivalent→same-position = keeps→position rooms others k ko there keeps same-size
+
+  pub equivalent→same-labels : labelList rooms ≡ labelList others
+  equivalent→same-labels =
+      ext-getD 0 (labelList rooms) (labelList others) (length-label-list rooms k ∙ same-size ∙ sym (length-label-list others ko))
+      (λ i h. same i (omega (arith, length-label-list rooms k)))
+    where
+      same : (i : ℕ) → i < length rooms → labelAt (labelList rooms) (suc i) ≡ labelAt (labelList others) (suc i)
+      same i h =
+          let (here, at) = room-at-position rooms k (suc i) (omega arith) h in
+          let room = roomAtPosition rooms (suc i) in
+          label-list-at rooms k i h ∙ sym (keeps→label rooms others k ko there keeps same-size room here) ∙ sym (label-by-position others ko (there room) (keeps .there< room here))
+          ∙ ap (labelAt (labelList others)) (equivalent→same-position room here ∙ at)

@@ -1,11 +1,12 @@
 -- The picture of a plan as SVG: "rooms as rectangles with label and position, segments drawn so that the T-junctions can be seen".
 -- A grid step is 40 units, and the margin is 20. SVG counts y downward.
 use mathlib.Core.List.{List, [], _++_}
-use mathlib.Core.Logic.{ite}
 use Prim.Native.Nat.{ℕ, zero, suc, _+_, _*_, _-_, min}
 use Prim.Native.String.{String}
 use native.Mathlib.Decide.{decLt}
 use Rattle.drawing.specs.declared.Room.{Room}
+use Rattle.rooms.specs.Segment.{Direction, upright, flat, Stretch}
+use Rattle.contacts.specs.GridLine.{lineAt}
 use Rattle.digits.specs.Ascii.{ascii}
 use Rattle.digits.specs.Decimal.{decimal}
 use Rattle.text.specs.View.{View, printed}
@@ -70,37 +71,33 @@ abbrev pub rooms : View
 rooms label room n = roomsDrawn label room n n
 
 -- ---- segments
--- Positions k and k + 1 lie at one inner segment, on its two sides. Where the label rises it is vertical, at k across, from the
--- bottom of the later room to the top of the earlier one; where it falls it is horizontal, at k up, from the left of the later room
--- to the right of the earlier one. It stops 6 units short of the segments on which it ends.
-abbrev pub vertical : (n k : ℕ) (earlier later : Room) → List ℕ
-vertical n k earlier later =
-    value "<line class=\"v\" x1=\"" (across k)
-    then value "\" y1=\"" (down n (earlier .top) + 6)
-    then value "\" x2=\"" (across k)
-    then value "\" y2=\"" (down n (later .bottom) - 6)
+-- a segment on the line `at`: it stops 6 units short of the segments on which it ends
+abbrev pub line : Direction → (n at from to : ℕ) → List ℕ
+line upright n at from to =
+    value "<line class=\"v\" x1=\"" (across at)
+    then value "\" y1=\"" (down n to + 6)
+    then value "\" x2=\"" (across at)
+    then value "\" y2=\"" (down n from - 6)
+    then ascii "\"/>\n"
+line flat n at from to =
+    value "<line class=\"h\" x1=\"" (across from + 6)
+    then value "\" y1=\"" (down n at)
+    then value "\" x2=\"" (across to - 6)
+    then value "\" y2=\"" (down n at)
     then ascii "\"/>\n"
 
-abbrev pub horizontal : (n k : ℕ) (earlier later : Room) → List ℕ
-horizontal n k earlier later =
-    value "<line class=\"h\" x1=\"" (across (later .left) + 6)
-    then value "\" y1=\"" (down n k)
-    then value "\" x2=\"" (across (earlier .right) - 6)
-    then value "\" y2=\"" (down n k)
-    then ascii "\"/>\n"
+abbrev pub segmentDrawn : (n : ℕ) → Stretch → List ℕ
+segmentDrawn n s = line (s .direction) n (s .line) (s .from) (s .to)
 
-abbrev pub segment : (n k first second : ℕ) (earlier later : Room) → List ℕ
-segment n k first second earlier later = ite (decLt first second) (vertical n k earlier later) (horizontal n k earlier later)
-
--- the segments after positions 1 to k
+-- the segments on the lines 1 to k, each between two positions that follow each other: that they are the inner segments of the drawing
+-- is the theorem `m101-lines-are-inner-segments`
 unfoldable pub segmentsDrawn : (label : ℕ → ℕ) (room : ℕ → Room) (n k : ℕ) → List ℕ
 unfolding decLt
 segmentsDrawn label room n zero = []
 segmentsDrawn label room n (suc k) =
-    segmentsDrawn label room n k
-    ++ segment n (suc k) (label (suc k)) (label (suc (suc k))) (room (suc k)) (room (suc (suc k)))
+    segmentsDrawn label room n k ++ segmentDrawn n (lineAt label room (suc k))
 
--- one after each position but the last
+-- one on each of the lines 1 to n - 1
 abbrev pub segments : View
 segments label room n = segmentsDrawn label room n (n - 1)
 

@@ -3,8 +3,9 @@
 ghost use mathlib.Core.Path.{_≡_};
 ghost use Prim.Native.Nat.{_+_, _≤_};
 ghost use lib.ListN.{length};
+ghost use Rattle.contacts.specs.GridLine.{lineBetween};
 ghost use Rattle.text.specs.Put.{Put};
-ghost use Rattle.shapes.specs.Picture.{shortSide, rectangle, names, segment, head};
+ghost use Rattle.shapes.specs.Picture.{shortSide, rectangle, names, segmentDrawn, head};
 ghost use Rattle.shapes.specs.Within.{Within};
 use drawing::Room;
 use record::Label;
@@ -89,7 +90,7 @@ pub fn put_segment(
     later: Room,
 ) -> usize
     requires { ⌜ (n ≤ 255) × (k ≤ n) × Within n earlier × Within n later ⌝ ∗ ⌜ at + 62 ≤ length (now text) ⌝ }
-    ensures { λ r. ⌜ Put (now (text .entry)) at (segment n k (first .0) (second .0) earlier later) (now (text .exit)) r
+    ensures { λ r. ⌜ Put (now (text .entry)) at (segmentDrawn n (lineBetween k (first .0) (second .0) earlier later)) (now (text .exit)) r
         × (r ≤ at + 62) ⌝ }
 {
     if first.0 < second.0 {

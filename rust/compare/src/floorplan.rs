@@ -124,19 +124,19 @@ impl Floorplan {
             ..
         } = random.pick(&self.0).room;
         let (mut from, mut to) = (bottom, top);
-        let touches = |room: Room, from, to| {
+        let adjoins = |room: Room, from, to| {
             (room.left == x || room.right == x) && room.bottom <= to && room.top >= from
         };
         let mut known = (to, from);
         while known != (from, to) {
             known = (from, to);
             for Placed { room, .. } in &self.0 {
-                if touches(*room, from, to) {
+                if adjoins(*room, from, to) {
                     (from, to) = (from.min(room.bottom), to.max(room.top));
                 }
             }
         }
-        let held = |room: &Room| touches(*room, from, to);
+        let held = |room: &Room| adjoins(*room, from, to);
         let rooms = || self.0.iter().map(|placed| placed.room).filter(held);
         let start = rooms().filter(|room| room.right == x).map(|room| room.left);
         let end = rooms().filter(|room| room.left == x).map(|room| room.right);
@@ -159,6 +159,14 @@ impl Floorplan {
     /// Puts the rooms in a random order.
     pub fn shuffle(&mut self, random: &mut Random) {
         random.shuffle(&mut self.0);
+    }
+
+    /// Stretches the plan, slides its segments in so many tries and shuffles
+    /// the rooms: what comes out is equivalent.
+    pub fn move_about(&mut self, slides: usize, random: &mut Random) {
+        self.stretch(random);
+        self.slide(slides, random);
+        self.shuffle(random);
     }
 
     /// The rooms.

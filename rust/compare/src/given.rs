@@ -2,7 +2,7 @@
 
 use crate::lent::hex;
 use crate::records::record_length;
-use reference::{numbering_of, plan_of, Numbered, Numbering, Plan, Refusal, Room};
+use reference::{numbering_of, plan_of, Numbered, Numbering, Plan, Questions, Refusal, Room};
 use std::fmt;
 
 /// An input and its answer in slices that are long enough, found once for all
@@ -17,6 +17,10 @@ pub struct Given<T, A> {
 
 /// A record, and the plan that it stands for.
 pub type GivenRecord = Given<u8, Plan>;
+
+/// A record, and what questions about it are answered from. That takes longer
+/// to find than the plan alone.
+pub type AskedRecord = Given<u8, Questions>;
 
 /// A room list, and its record, labels and positions.
 pub type GivenRooms = Given<Room, Numbering>;
@@ -47,6 +51,14 @@ impl GivenRecord {
     #[must_use]
     pub fn new(record: impl Into<Vec<u8>>) -> Self {
         Self::answered(record, plan_of)
+    }
+}
+
+impl AskedRecord {
+    /// The record with these bytes, answered by the definitions.
+    #[must_use]
+    pub fn new(record: impl Into<Vec<u8>>) -> Self {
+        Self::answered(record, |record| plan_of(record).map(Questions::about))
     }
 }
 
@@ -100,7 +112,7 @@ pub(crate) fn written<R>(
     })
 }
 
-impl fmt::Display for GivenRecord {
+impl<A> fmt::Display for Given<u8, A> {
     fn fmt(&self, f: &mut fmt::Formatter<'_>) -> fmt::Result {
         f.write_str(&hex(&self.input))
     }

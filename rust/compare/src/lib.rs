@@ -34,7 +34,8 @@ mod walks;
 
 pub use causes::each_times;
 pub use floorplan::Floorplan;
-pub use given::{Given, GivenRecord, GivenRooms};
+pub use given::{AskedRecord, Given, GivenRecord, GivenRooms};
 pub use program::Program;
+pub use question::AskedPlan;
 pub use rounds::repeat;
 pub use tally::{grouped, report, Tally};

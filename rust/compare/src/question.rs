@@ -1,11 +1,12 @@
 //! The comparison of one case of the question.
 
-use crate::given::GivenRecord;
+use crate::floorplan::Floorplan;
+use crate::given::AskedRecord;
 use crate::lent::{Input, Surroundings, SURROUNDINGS};
 use crate::of_library;
 use crate::outcome::number;
 use crate::tally::Tally;
-use reference::{Refusal, Relation};
+use reference::{Contacts, Refusal, Relation, Room};
 
 /// What a question is answered with.
 pub type Answer = Result<(Relation, bool), Refusal>;
@@ -17,8 +18,8 @@ impl Tally {
     /// # Panics
     ///
     /// If they differ, or one of them writes where the record stands.
-    pub fn question(&mut self, given: &GivenRecord, first: u8, second: u8) -> Answer {
-        let answer = given.and_then(|plan| plan.question(first, second));
+    pub fn question(&mut self, given: &AskedRecord, first: u8, second: u8) -> Answer {
+        let answer = given.and_then(|questions| questions.answer(first, second));
         for around in SURROUNDINGS {
             compare(given, first, second, answer, around);
         }
@@ -31,15 +32,60 @@ impl Tally {
     /// # Panics
     ///
     /// If the answer is another, or as [`Self::question`].
-    pub fn expect_answer(&mut self, given: &GivenRecord, first: u8, second: u8, expected: Answer) {
+    pub fn expect_answer(&mut self, given: &AskedRecord, first: u8, second: u8, expected: Answer) {
         let answer = self.question(given, first, second);
         assert_eq!(answer, expected, "record {given}, {first} to {second}");
     }
 }
 
+/// A floorplan that questions are asked about.
+#[derive(Debug)]
+pub struct AskedPlan {
+    /// The rooms.
+    pub rooms: Vec<Room>,
+    /// Which of them touch, by their own segments.
+    pub contacts: Contacts,
+    /// The record of the plan.
+    pub record: AskedRecord,
+    /// The position of each room, in list order.
+    pub positions: Vec<u8>,
+}
+
+impl AskedPlan {
+    /// The plan, whose record and positions are known.
+    #[must_use]
+    pub fn new(plan: &Floorplan) -> Self {
+        let (rooms, numbering) = (plan.rooms(), plan.numbering());
+        Self {
+            contacts: Contacts::of(&rooms),
+            rooms,
+            record: AskedRecord::new(numbering.record),
+            positions: numbering.positions,
+        }
+    }
+}
+
+impl Tally {
+    /// Asks for two different rooms of a plan, each by its place in the list:
+    /// for the plan's record and the rooms' positions. Says whether they
+    /// touch.
+    ///
+    /// # Panics
+    ///
+    /// If the plan's own segments say otherwise, or as [`Self::question`].
+    pub fn question_of_rooms(&mut self, plan: &AskedPlan, first: usize, second: usize) -> bool {
+        let [one, other] = [first, second].map(|place| plan.positions[place]);
+        let touch = plan.contacts.touch(first, second);
+        let answer = self.question(&plan.record, one, other);
+        let answer = answer.map(|(_, touch)| touch);
+        assert_eq!(answer, Ok(touch), "{one} and {other} of {:?}", plan.rooms);
+        touch
+    }
+}
+
 /// Holds the library and the fast Rust version to the answer of the
 /// definitions.
-fn compare(given: &GivenRecord, first: u8, second: u8, answer: Answer, around: Surroundings) {
+fn compare(given: &AskedRecord, first: u8, second: u8, answer: Answer, around: Surroundings) {
     let lent = Input::new(&given.input, around);
     let record = lent.slice();
     let fast = reference::fast::question(record, first, second);

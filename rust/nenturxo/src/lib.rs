@@ -119,8 +119,10 @@ pub fn record_in(record: &[u8], labels: &mut [u8], corners: Corners<'_>) -> Resu
 }
 
 /// The question: how the room at position `first` of a record stands to the
-/// one at position `second`, and whether the two touch, that is, share a piece
-/// of edge in the grid drawing.
+/// one at position `second`, and whether the two touch. Two rooms touch when
+/// one segment that is not an outline side supports both, from the same side
+/// or from opposite sides. The answer is the same for every equivalent
+/// floorplan.
 ///
 /// ```
 /// use nenturxo::{question, Refusal, Relation};
@@ -129,6 +131,10 @@ pub fn record_in(record: &[u8], labels: &mut [u8], corners: Corners<'_>) -> Resu
 /// assert_eq!(question(&record, 1, 4)?, (Relation::Left, true));
 /// assert_eq!(question(&record, 5, 1)?, (Relation::Above, false));
 /// assert_eq!(question(&record, 1, 6), Err(Refusal::POSITION_OUTSIDE));
+///
+/// // Two rows of two rooms: the segment between the rows supports all four.
+/// let rows = [0x04, 0x47, 0x00];
+/// assert_eq!(question(&rows, 1, 4)?, (Relation::Below, true));
 /// # Ok::<(), nenturxo::Refusal>(())
 /// ```
 ///

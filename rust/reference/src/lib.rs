@@ -2,9 +2,9 @@
 //!
 //! This is the separately written version that the proved library is held to.
 //! It is meant to be believed by reading: each function is one sentence of
-//! the sheet, or of the request M-100, and says which. What is fast lives
-//! apart, in [`fast`], and is itself held to the definitions. What tests are
-//! made of is in [`cases`].
+//! the sheet, or of the requests M-100 and M-101, and says which. What is fast
+//! lives apart, in [`fast`], and is itself held to the definitions. What tests
+//! are made of is in [`cases`].
 //!
 //! ```
 //! let mut record = [0; 97];
@@ -21,6 +21,7 @@
 mod barred;
 pub mod cases;
 mod drawing;
+mod edge;
 pub mod fast;
 mod labels;
 mod plan;
@@ -32,20 +33,21 @@ mod rooms;
 mod runs;
 mod text;
 mod tidy;
-mod touch;
 mod triple;
 
 pub use barred::is_barred;
 pub use drawing::{drawing, Room};
+pub use edge::{Edge, Line};
 pub use labels::labels_in;
 pub use plan::{plan_of, record_in, Corners, Plan};
 pub use planlist::planlist;
-pub use question::{question, Relation};
+pub use question::{question, Questions, Relation};
 pub use record::{record_of, triples_in};
 pub use refusal::Refusal;
-pub use rooms::{equivalent, numbering_of, rooms_in, segments, Numbered, Numbering, Segment};
+pub use rooms::{
+    equivalent, numbering_of, rooms_in, segments, Contacts, Numbered, Numbering, Segment,
+};
 pub use runs::{labels_of, Runs, TRIPLES};
 pub use text::{numbers_in, tidy_form};
 pub use tidy::tidy;
-pub use touch::{Edge, Line};
 pub use triple::{triples, Triple};

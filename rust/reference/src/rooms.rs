@@ -5,9 +5,11 @@ mod equivalent;
 mod orders;
 mod ranks;
 mod segments;
+mod touch;
 
 pub use equivalent::equivalent;
 pub use segments::{segments, Segment};
+pub use touch::Contacts;
 
 use crate::plan::front;
 use crate::{record_of, triples, Refusal, Room};

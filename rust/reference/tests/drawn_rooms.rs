@@ -1,9 +1,10 @@
 //! The rooms of every small drawing, judged by "Rooms, segments and the two
 //! orders" of the sheet: their labels, their positions and how they stand to
-//! each other must be those that they were drawn from.
+//! each other must be those that they were drawn from. And judged by the
+//! request M-101: whether they touch must be what a question is answered with.
 
 use reference::cases::{baxter_lists_up_to, every_code};
-use reference::{drawing, labels_of, Plan, Relation, Room};
+use reference::{drawing, labels_of, Plan, Questions, Relation, Room};
 
 /// One way through a drawing: the relations left and right, or with the two
 /// directions traded below and above.
@@ -44,6 +45,19 @@ impl Way {
         end == start && self.segment(rooms, end, from_a) == self.segment(rooms, end, from_b)
     }
 
+    /// Whether one segment that is not an outline side supports both rooms,
+    /// from the same side or from opposite sides.
+    fn supports_both(self, rooms: &[Room], a: Room, b: Room) -> bool {
+        let ([start_a, end_a, from_a, _], [start_b, end_b, from_b, _]) =
+            (self.extents(a), self.extents(b));
+        [start_a, end_a].into_iter().any(|at| {
+            let is_inner = at != 0 && usize::from(at) != rooms.len();
+            let on_line = at == start_b || at == end_b;
+            let segment = |piece| self.segment(rooms, at, piece);
+            is_inner && on_line && segment(from_a) == segment(from_b)
+        })
+    }
+
     /// Whether a chain of direct steps leads from one room to another.
     fn chains(self, rooms: &[Room]) -> Vec<Vec<bool>> {
         let mut chains: Vec<Vec<bool>> = rooms
@@ -62,7 +76,8 @@ impl Way {
 }
 
 /// Holds a plan to the definitions.
-fn check(plan: &Plan) {
+fn check(questions: &Questions) {
+    let plan = questions.plan();
     let n = plan.rooms.len();
     let left = Way::Across.chains(&plan.rooms);
     let below = Way::Up.chains(&plan.rooms);
@@ -88,8 +103,14 @@ fn check(plan: &Plan) {
                 }
             }
             let position = |at: usize| u8::try_from(at + 1).unwrap();
-            let (relation, _) = plan.question(position(a), position(b)).unwrap();
+            let (relation, touch) = questions.answer(position(a), position(b)).unwrap();
             assert_eq!(relations, [relation], "{plan:?}, {a} and {b}");
+
+            let [room_a, room_b] = [a, b].map(|at| plan.rooms[at]);
+            let expected = [Way::Across, Way::Up]
+                .iter()
+                .any(|way| way.supports_both(&plan.rooms, room_a, room_b));
+            assert_eq!(touch, expected, "{plan:?}, {a} and {b}");
         }
     }
 }
@@ -102,7 +123,7 @@ fn every_plan_of_up_to_7_rooms() {
         .flat_map(|code| labels_of(&code))
     {
         let rooms = drawing(&labels);
-        check(&Plan { labels, rooms });
+        check(&Questions::about(Plan { labels, rooms }));
         plans += 1;
     }
     assert_eq!(plans, baxter_lists_up_to(7));

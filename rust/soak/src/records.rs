@@ -1,33 +1,54 @@
 //! Inputs of "Record in" and of the question.
 
+use crate::rooms::some_plan;
 use crate::size::{capacities, some_walk};
 use compare::damage::Damage;
 use compare::records::record_length;
-use compare::{GivenRecord, Tally};
+use compare::{AskedPlan, AskedRecord, GivenRecord, Tally};
 use reference::cases::Random;
+
+/// Records of a turn.
+const RECORDS: usize = 2;
 
 /// Pairs of positions for each record.
 const PAIRS: usize = 5;
 
 /// Compares a record, and the same record with damage.
 pub fn compare_some(tally: &mut Tally, random: &mut Random) {
-    for given in some_records(random) {
+    for given in some_records(random).map(GivenRecord::new) {
         let needed = [usize::from(kind(&given.input)); 5];
         let _ = tally.record_in(&given, capacities(needed, random));
     }
 }
 
-/// Asks for positions of a record, and of the same record with damage.
+/// Asks for positions of a record, and of the same record with damage. In some
+/// turns asks as often for rooms of a floorplan.
 pub fn ask_some(tally: &mut Tally, random: &mut Random) {
-    for given in some_records(random) {
+    if random.below(8) == 0 {
+        let plan = AskedPlan::new(&some_plan(random));
+        if plan.rooms.len() > 1 {
+            return ask_for_rooms(tally, &plan, random);
+        }
+    }
+    for given in some_records(random).map(AskedRecord::new) {
         for _ in 0..PAIRS {
-            let first = some_position(&given, random);
+            let first = some_position(&given.input, random);
             let second = match random.below(8) {
                 0 => first,
-                _ => some_position(&given, random),
+                _ => some_position(&given.input, random),
             };
             let _ = tally.question(&given, first, second);
         }
+    }
+}
+
+/// Asks for rooms of a plan of two or more.
+fn ask_for_rooms(tally: &mut Tally, plan: &AskedPlan, random: &mut Random) {
+    let n = plan.rooms.len();
+    for _ in 0..RECORDS * PAIRS {
+        let first = random.below(n);
+        let second = (first + random.between(1, n - 1)) % n;
+        tally.question_of_rooms(plan, first, second);
     }
 }
 
@@ -38,8 +59,8 @@ fn kind(record: &[u8]) -> u8 {
 
 /// A position: mostly one of the record's rooms, often the first or the last,
 /// but any number can come up.
-fn some_position(given: &GivenRecord, random: &mut Random) -> u8 {
-    let n = kind(&given.input);
+fn some_position(record: &[u8], random: &mut Random) -> u8 {
+    let n = kind(record);
     match random.below(16) {
         0 => 0,
         1 => 1,
@@ -51,10 +72,10 @@ fn some_position(given: &GivenRecord, random: &mut Random) -> u8 {
 }
 
 /// A record that is accepted, and one with damage.
-fn some_records(random: &mut Random) -> [GivenRecord; 2] {
+fn some_records(random: &mut Random) -> [Vec<u8>; RECORDS] {
     let record = some_walk(random).record();
     let damaged = damaged(&record, random);
-    [record, damaged].map(GivenRecord::new)
+    [record, damaged]
 }
 
 /// A record with damage, or sometimes random bytes.

@@ -38,7 +38,7 @@ fn compare(tally: &mut Tally, given: &GivenRooms, random: &mut Random) {
 }
 
 /// A floorplan: a drawing or a nested plan, stretched, slid and shuffled.
-fn some_plan(random: &mut Random) -> Floorplan {
+pub fn some_plan(random: &mut Random) -> Floorplan {
     let mut plan = match random.below(4) {
         0 => {
             let n = some_count(random).min(NESTED);

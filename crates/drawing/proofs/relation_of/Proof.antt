@@ -1,6 +1,6 @@
 -- `relation_of` meets its contract. Each of the four answers is given where the two comparisons of its case hold.
 -- The laws of the relation's cases say that it is the one that is defined.
-use Rattle.drawing.proofs.Tell.{relation-left, relation-below, relation-right, relation-above}
+use Rattle.drawing.proofs.Cases.{relation-left, relation-below, relation-right, relation-above}
 use borrow.Author.Needs.{needs}
 use Rattle.drawing.proofs.relation_of.Statement.{statement}
 use Rattle.drawing.proofs.relation_of.Tie as tie

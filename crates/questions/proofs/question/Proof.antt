@@ -1,19 +1,19 @@
 -- `questions::question` meets its contract: the record is read or refused, the positions are looked at, and the two rooms answer, both of which the walk back has passed.
 use mathlib.Core.Bool.{Bool}
-use mathlib.Core.Logic.{_≢_, _⊎_, inl, inr}
+use mathlib.Core.Logic.{_⊎_, inl, inr}
 use mathlib.Core.Path.{_≡_, sym, subst, subst₂, _∙_}
-use Prim.Native.Nat.{ℕ, _≤_, _<_}
+use Prim.Native.Nat.{_≤_}
 use native.Mathlib.Omega.{arith}
 use lib.ListN.{length, replicate}
 use Rattle.finite.specs.Decide.{Tells}
 use Rattle.reading.specs.Answer.{Given, Leaves}
 use Rattle.reading.specs.SameRefusal.{same-refusal}
 use Rattle.reading.specs.declared.Reading.{Reading}
-use Rattle.drawing.specs.Touch.{Touch}
+use Rattle.drawing.specs.InnerLine.{ShareInnerLine}
 use Rattle.drawing.specs.declared.Room.{Room}
 use Rattle.questions.specs.Answer.{Outside}
 use Rattle.questions.specs.declared.QuestionAnswer.the-variants.{Refused}
-use Rattle.questions.proofs.Asked.{outside-answer, same-answer, related-answer}
+use Rattle.questions.proofs.Asked.{within, outside-answer, same-answer, related-answer}
 use Rattle.questions.proofs.Given.{relation-is, room-is}
 use borrow.Author.Needs.{needs}
 use Rattle.questions.proofs.question.Statement.{statement}
@@ -24,11 +24,11 @@ use Rattle.questions.proofs.earlier.Reads as earlier-reads
 use Rattle.questions.proofs.outside.Reads as outside-reads
 use Rattle.questions.proofs.room_at.Reads as room-at-reads
 use Rattle.drawing.proofs.relation_of.Reads as relation-of-reads
-use Rattle.drawing.proofs.touch.Reads as touch-reads
+use Rattle.drawing.proofs.share_inner_line.Reads as share-reads
 use Rattle.reading.proofs.read.Reads as read-reads
 
 -- what was read
-given : (k : lts.After-known-told2 (earlier-reads.Asked, earlier-reads.Learnt, read-reads.Asked, read-reads.Learnt, outside-reads.Asked, outside-reads.Learnt, relation-of-reads.Asked, relation-of-reads.Learnt, room-at-reads.Asked, room-at-reads.Learnt, touch-reads.Asked, touch-reads.Learnt) reads.Pre reads.Post)
+given : (k : lts.After-known-told2 (earlier-reads.Asked, earlier-reads.Learnt, read-reads.Asked, read-reads.Learnt, outside-reads.Asked, outside-reads.Learnt, relation-of-reads.Asked, relation-of-reads.Learnt, room-at-reads.Asked, room-at-reads.Learnt, share-reads.Asked, share-reads.Learnt) reads.Pre reads.Post)
     → let last = k .before .before .before .before .before .before .read .last .1 .1 .1 in
     Given (k .before .before .before .before .before .before .before .before .before .before .before .before .before .before .args .«record» .now) (k .before .n .given .0 .0) (k .before .before .before .before .before .before .before .before .before .before .before .before .earlier .result) 255 (last .0) (last .1 .0) (replicate 255 0) (replicate 255 0) (replicate 255 0) (last .1 .1 .0) (last .1 .1 .1 .0) (last .1 .1 .1 .1 .0)
 given k =
@@ -38,7 +38,7 @@ given k =
     (k .before .n .given .1) (read .ensures .1)
 
 -- both positions are inside
-inside : (e : lts.Else2 (earlier-reads.Asked, earlier-reads.Learnt, read-reads.Asked, read-reads.Learnt, outside-reads.Asked, outside-reads.Learnt, relation-of-reads.Asked, relation-of-reads.Learnt, room-at-reads.Asked, room-at-reads.Learnt, touch-reads.Asked, touch-reads.Learnt) reads.Pre reads.Post) → let k = e .before .before .before .before in let a = k .before .before .before .before .before .before .before .before .before .before .before .before .before .before .args in let n = k .before .n .given .0 .0 in ¬ (Outside (a .first) n ⊎ Outside (a .second) n)
+inside : (e : lts.Else2 (earlier-reads.Asked, earlier-reads.Learnt, read-reads.Asked, read-reads.Learnt, outside-reads.Asked, outside-reads.Learnt, relation-of-reads.Asked, relation-of-reads.Learnt, room-at-reads.Asked, room-at-reads.Learnt, share-reads.Asked, share-reads.Learnt) reads.Pre reads.Post) → let k = e .before .before .before .before in let a = k .before .before .before .before .before .before .before .before .before .before .before .before .before .before .args in let n = k .before .n .given .0 .0 in ¬ (Outside (a .first) n ⊎ Outside (a .second) n)
 inside e h =
     let k = e .before .before .before .before in
     let a = k .before .before .before .before .before .before .before .before .before .before .before .before .before .before .args in
@@ -48,13 +48,7 @@ inside e h =
       | inr o ↦ subst (λ (t : Bool). Tells t (Outside (a .second) n)) (e .if2 .left) (e .before .outside2 .ensures) o
     ]
 
-within : (position n : ℕ) → ¬ Outside position n → (1 ≤ position) × (position ≤ n)
-within position n h =
-    let some : position ≢ 0 = λ z. h (inl z) in
-    let most : ¬ (n < position) = λ l. h (inr l) in
-    (omega arith, omega arith)
-
-both : (e : lts.Else2 (earlier-reads.Asked, earlier-reads.Learnt, read-reads.Asked, read-reads.Learnt, outside-reads.Asked, outside-reads.Learnt, relation-of-reads.Asked, relation-of-reads.Learnt, room-at-reads.Asked, room-at-reads.Learnt, touch-reads.Asked, touch-reads.Learnt) reads.Pre reads.Post) → let k = e .before .before .before .before in let a = k .before .before .before .before .before .before .before .before .before .before .before .before .before .before .args in let n = k .before .n .given .0 .0 in (1 ≤ a .first) × (a .first ≤ n) × (1 ≤ a .second) × (a .second ≤ n)
+both : (e : lts.Else2 (earlier-reads.Asked, earlier-reads.Learnt, read-reads.Asked, read-reads.Learnt, outside-reads.Asked, outside-reads.Learnt, relation-of-reads.Asked, relation-of-reads.Learnt, room-at-reads.Asked, room-at-reads.Learnt, share-reads.Asked, share-reads.Learnt) reads.Pre reads.Post) → let k = e .before .before .before .before in let a = k .before .before .before .before .before .before .before .before .before .before .before .before .before .before .args in let n = k .before .n .given .0 .0 in (1 ≤ a .first) × (a .first ≤ n) × (1 ≤ a .second) × (a .second ≤ n)
 both e =
     let k = e .before .before .before .before in
     let a = k .before .before .before .before .before .before .before .before .before .before .before .before .before .before .args in
@@ -129,8 +123,8 @@ room-at-requires c κs = both (c .before .before .before .before .before .before
 room-at-requires-2 : tie.Need-room-at-requires-2
 room-at-requires-2 c κs = both (c .before .before .before .before .before .before .before .before .before .before .before .before) .2
 
-touch-requires : tie.Need-touch-requires
-touch-requires c κs = search needs
+share-inner-line-requires : tie.Need-share-inner-line-requires
+share-inner-line-requires c κs = search needs
 
 returns-4 : tie.Need-returns-4
 returns-4 c =
@@ -150,10 +144,10 @@ returns-5 c =
     let left = g .long (g .few) (omega (arith, past .0, at .0, at .1)) in
     related-answer (g .kind) (g .readable) (a .first) (a .second) (inside e) (d .if3 .left)
     (w .relation-of .ensures ∙ relation-is (g .kind) (g .readable) left (a .first) (a .second) (at .0) (past .0) (at .1) (at .2) (past .1) (at .3))
-    (subst₂ (λ (one other : Room). Tells (c .touch .result) (Touch one other))
+    (subst₂ (λ (one other : Room). Tells (c .share-inner-line .result) (ShareInnerLine (k .before .n .given .0 .0) one other))
     (c .before .before .before .before .before .before .room-at .ensures ∙ room-is (g .kind) (g .readable) left (g .lefts) (g .bottoms) (a .first) (at .0) (past .0) (at .1))
     (c .before .room-at2 .ensures ∙ room-is (g .kind) (g .readable) left (g .lefts) (g .bottoms) (a .second) (at .2) (past .1) (at .3))
-    (c .touch .ensures))
+    (c .share-inner-line .ensures))
 
 pub question-spec : {M : Type 1} → statement M
 question-spec =
@@ -175,6 +169,6 @@ question-spec =
     relation-of-requires
     room-at-requires
     room-at-requires-2
-    touch-requires
+    share-inner-line-requires
     returns-4
     returns-5)

@@ -1,13 +1,14 @@
 -- `shapes::put_segment` meets its contract: the comparison of the labels says which form is put, with four numbers.
 use mathlib.Core.Logic.{if-pos, if-neg}
-use mathlib.Core.Path.{sym}
+use mathlib.Core.Path.{sym, ap}
 use Prim.Native.Nat.{ℕ, _≤_, _<_}
 use native.Mathlib.Decide.{decLt, ℕ-discrete}
 use native.Mathlib.Omega.{arith}
 use borrow.Author.Needs.{needs}
 use Rattle.text.specs.Form.{filled}
 use Rattle.text.specs.Puts.{put-as}
-use Rattle.shapes.specs.Picture.{vertical, horizontal}
+use Rattle.contacts.specs.GridLine.{verticalAt, horizontalAt}
+use Rattle.shapes.specs.Picture.{segmentDrawn}
 use Rattle.shapes.proofs.put_segment.Statement.{statement}
 use Rattle.shapes.proofs.put_segment.Tie as tie
 
@@ -62,7 +63,7 @@ returns c =
     let a = c .before .before .before .before .before .before .before .before .before .before .before .before .args in
     let line = c .before .before .put-form .ensures in
     let is = if-pos (decLt (a .first .0) (a .second .0)) (c .before .before .before .before .before .before .before .before .if1 .taken) _ _ in
-    (put-as {part = vertical (a .n) (a .k) (a .earlier) (a .later)} (sym is) (line .0), omega (arith, line .1))
+    (put-as {part = segmentDrawn (a .n) (verticalAt (a .k) (a .earlier) (a .later))} (ap (segmentDrawn (a .n)) (sym is)) (line .0), omega (arith, line .1))
 
 sub-y : tie.Need-sub-y
 sub-y c = search needs
@@ -109,7 +110,7 @@ returns-2 c =
     let a = c .before .before .before .before .before .before .before .before .before .before .before .before .args in
     let line = c .before .before .put-form2 .ensures in
     let is = if-neg (decLt (a .first .0) (a .second .0)) (falls (c .before .before .before .before .before .before .before .before .if1 .left)) _ _ in
-    (put-as {part = horizontal (a .n) (a .k) (a .earlier) (a .later)} (sym is) (line .0), omega (arith, line .1))
+    (put-as {part = segmentDrawn (a .n) (horizontalAt (a .k) (a .earlier) (a .later))} (ap (segmentDrawn (a .n)) (sym is)) (line .0), omega (arith, line .1))
 
 pub put-segment-spec : {M : Type 1} → statement M
 put-segment-spec =

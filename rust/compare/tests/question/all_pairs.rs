@@ -1,12 +1,12 @@
 //! Every pair of numbers that can be asked for.
 
-use compare::{GivenRecord, Tally};
+use compare::{AskedRecord, Tally};
 use reference::cases::walk::{random_list, Walked};
 use reference::cases::{every_code, worked, Random, BAXTER_NUMBERS};
 use reference::{record_of, Refusal};
 
 /// Asks for every pair of numbers from 0 to `last`.
-fn ask_every_pair(tally: &mut Tally, given: &GivenRecord, last: u8) {
+fn ask_every_pair(tally: &mut Tally, given: &AskedRecord, last: u8) {
     for first in 0..=last {
         for second in 0..=last {
             let _ = tally.question(given, first, second);
@@ -27,7 +27,7 @@ fn every_pair_of_numbers_for_some_records() {
         records.push(random_list(n, &mut random).record());
     }
     for record in &records {
-        ask_every_pair(&mut tally, &GivenRecord::new(&record[..]), 255);
+        ask_every_pair(&mut tally, &AskedRecord::new(&record[..]), 255);
     }
     // Each record of n rooms has n² pairs inside, n of them equal.
     let counts = [1, 2, 5, 7, 255, 255, 255, 255, 40, 128, 254, 255];
@@ -46,7 +46,7 @@ fn every_pair_of_numbers_for_some_records() {
 fn every_pair_of_numbers_for_a_record_of_each_refusal() {
     let mut tally = Tally::new("pairs of numbers for refused records");
     for (record, refusal) in worked::REFUSED_RECORDS {
-        ask_every_pair(&mut tally, &GivenRecord::new(record), 255);
+        ask_every_pair(&mut tally, &AskedRecord::new(record), 255);
         assert_eq!(tally.refused(refusal), 256 * 256);
     }
     tally.finish(worked::REFUSED_RECORDS.len() * 256 * 256);
@@ -57,8 +57,8 @@ fn every_pair_near_the_plan_for_every_plan_of_up_to_7_rooms() {
     let mut tally = Tally::new("pairs of every plan of up to 7 rooms");
     let mut cases = 0;
     for (n, number) in (1..=7).zip(BAXTER_NUMBERS) {
-        let records = every_code(n).map(|code| GivenRecord::new(record_of(n, &code)));
-        let accepted: Vec<GivenRecord> = records.filter(|given| given.answer.is_ok()).collect();
+        let records = every_code(n).map(|code| AskedRecord::new(record_of(n, &code)));
+        let accepted: Vec<AskedRecord> = records.filter(|given| given.answer.is_ok()).collect();
         assert_eq!(accepted.len(), number, "n = {n}");
         for given in &accepted {
             ask_every_pair(&mut tally, given, n + 1);

@@ -1,6 +1,7 @@
 //! Pairs of positions in plans of up to 255 rooms.
 
-use compare::{repeat, report, GivenRecord, Tally};
+use crate::help::share_an_edge;
+use compare::{repeat, report, AskedRecord, Tally};
 use reference::cases::walk::{biased_list, list_in_turn};
 use reference::cases::Random;
 use reference::{Relation, Room};
@@ -10,20 +11,34 @@ fn share_a_line(a: Room, b: Room) -> bool {
     a.right == b.left || b.right == a.left || a.top == b.bottom || b.top == a.bottom
 }
 
-/// Whether some corner of one room is a corner of the other.
-fn share_a_corner(a: Room, b: Room) -> bool {
-    let across = [a.left, a.right]
-        .iter()
-        .any(|x| [b.left, b.right].contains(x));
-    let up = [a.bottom, a.top]
-        .iter()
-        .any(|y| [b.bottom, b.top].contains(y));
-    across && up
+/// Whether both rooms are at one side of the outline of a drawing of `n`.
+fn share_an_outline_side(a: Room, b: Room, n: usize) -> bool {
+    let is_far = |at| usize::from(at) == n;
+    a.left.max(b.left) == 0
+        || a.bottom.max(b.bottom) == 0
+        || is_far(a.right.min(b.right))
+        || is_far(a.top.min(b.top))
 }
 
 /// Whether the first room ends before the second begins.
 fn ends_before(a: Room, b: Room) -> bool {
     a.right <= b.left
+}
+
+/// Of each kind of pair, whether two rooms of a drawing of `n` with this answer
+/// are of it.
+fn kinds(a: Room, b: Room, n: usize, (relation, touch): (Relation, bool)) -> [bool; 5] {
+    [
+        touch,
+        // along a segment, with no piece of edge in common
+        touch && !share_an_edge(a, b),
+        // from the same side only
+        touch && !share_a_line(a, b),
+        // on an outline side, which does not count
+        !touch && share_an_outline_side(a, b, n),
+        // seems to be left by x, and is not
+        ends_before(a, b) && relation != Relation::Left,
+    ]
 }
 
 /// How far one of `n` positions is from another, round the end if need be: in
@@ -42,24 +57,24 @@ fn pairs_of_random_plans() {
     const PAIRS: usize = 24;
     let name = "pairs of random plans";
     let mut relations = [0; 4];
-    let (mut touching, mut by_a_part, mut only_on_a_line, mut seems_left) = (0, 0, 0, 0);
+    let mut of_kind = [0; 5];
     let tally = Tally::of_rounds(name, 101, 0..PLANS, |tally, random, round| {
         let n = random.between(2, 255);
-        let given = GivenRecord::new(list_in_turn(n, round, random).record());
-        let rooms = &given.answer.as_ref().expect("walks are accepted").rooms;
+        let given = AskedRecord::new(list_in_turn(n, round, random).record());
+        let questions = given.answer.as_ref().expect("walks are accepted");
+        let rooms = &questions.plan().rooms;
         for pair in 0..PAIRS {
             let first = random.between(1, n);
             let second = (first - 1 + some_distance(n, pair, random)) % n + 1;
             let [a, b] = [first, second].map(|position| rooms[position - 1]);
             let [first, second] = [first, second].map(|p| u8::try_from(p).expect("a byte"));
             let answer = tally.question(&given, first, second);
-            let (relation, touch) = answer.expect("the positions are inside and differ");
+            let answer = answer.expect("the positions are inside and differ");
 
-            relations[relation as usize] += 1;
-            touching += usize::from(touch);
-            by_a_part += usize::from(touch && !share_a_corner(a, b));
-            only_on_a_line += usize::from(!touch && share_a_line(a, b));
-            seems_left += usize::from(ends_before(a, b) && relation != Relation::Left);
+            relations[answer.0 as usize] += 1;
+            for (count, is_one) in of_kind.iter_mut().zip(kinds(a, b, n, answer)) {
+                *count += usize::from(is_one);
+            }
         }
     });
     // Each kind of pair must come up, or it would not have been tried.
@@ -67,9 +82,10 @@ fn pairs_of_random_plans() {
         relations.iter().all(|&count| count > PLANS),
         "{relations:?}"
     );
-    for count in [touching, by_a_part, only_on_a_line, seems_left] {
-        assert!(count > PLANS / 10, "one of the kinds has {count} pairs");
-    }
+    assert!(
+        of_kind.iter().all(|&count| count > PLANS / 10),
+        "{of_kind:?}"
+    );
     tally.finish(PLANS * PAIRS);
 }
 

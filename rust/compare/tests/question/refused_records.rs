@@ -1,7 +1,7 @@
 //! Damaged records: whatever the positions, the record's number comes first.
 
 use compare::damage::Damage;
-use compare::{each_times, GivenRecord, Tally};
+use compare::{each_times, AskedRecord, Tally};
 use reference::Refusal;
 
 #[test]
@@ -10,7 +10,7 @@ fn every_damage_with_all_kinds_of_positions() {
     let name = "questions about damaged records";
     let damages = each_times(Damage::all(), RECORDS);
     let tally = Tally::of_rounds(name, 111, damages, |tally, random, damage| {
-        let given = GivenRecord::new(damage.record(random));
+        let given = AskedRecord::new(damage.record(random));
         let n = given.input[0];
         let after = n.checked_add(1).unwrap_or(0);
         let one = u8::try_from(random.between(1, 255)).expect("a byte");
@@ -34,13 +34,13 @@ fn records_of_another_length() {
     let record = [0x05, 0x31, 0x70];
     // Among these are 256 and 65536 more than the length it should have.
     for added in [1, 2, 255, 256, 257, 65_535, 65_536, 65_537] {
-        let given = GivenRecord::new([&record[..], &vec![0; added]].concat());
+        let given = AskedRecord::new([&record[..], &vec![0; added]].concat());
         tally.expect_answer(&given, 1, 2, Err(Refusal::BytesAfter));
     }
     for length in [1, 2] {
-        let given = GivenRecord::new(&record[..length]);
+        let given = AskedRecord::new(&record[..length]);
         tally.expect_answer(&given, 1, 2, Err(Refusal::BodyShort));
     }
-    tally.expect_answer(&GivenRecord::new([]), 1, 2, Err(Refusal::NoKind));
+    tally.expect_answer(&AskedRecord::new([]), 1, 2, Err(Refusal::NoKind));
     tally.finish(8 + 2 + 1);
 }

@@ -5,17 +5,10 @@ use compare::{Floorplan, Tally};
 use reference::cases::walk::{biased_list, list_in_turn};
 use reference::cases::{baxter_lists, baxter_lists_up_to, Random};
 
-/// Moves the lines of a plan, slides so many segments and shuffles the rooms.
-fn move_about(plan: &mut Floorplan, slides: usize, random: &mut Random) {
-    plan.stretch(random);
-    plan.slide(slides, random);
-    plan.shuffle(random);
-}
-
 /// The drawing of a list, moved about.
 fn moved(labels: &[u8], slides: usize, random: &mut Random) -> Floorplan {
     let mut plan = Floorplan::drawn(labels);
-    move_about(&mut plan, slides, random);
+    plan.move_about(slides, random);
     plan
 }
 
@@ -28,7 +21,7 @@ fn every_drawing_of_up_to_6_labels() {
         let mut plan = Floorplan::drawn(&labels);
         for _ in 0..ROUNDS {
             tally.defined_plan(&plan);
-            move_about(&mut plan, 6, random);
+            plan.move_about(6, random);
         }
     });
     tally.finish_in_threes(ROUNDS * baxter_lists_up_to(6));

@@ -10,9 +10,7 @@ use reference::{equivalent, Room};
 /// The rooms of a drawing, moved and in another order.
 fn moved(labels: &[u8], random: &mut Random) -> Vec<Room> {
     let mut plan = Floorplan::drawn(labels);
-    plan.stretch(random);
-    plan.slide(5, random);
-    plan.shuffle(random);
+    plan.move_about(5, random);
     plan.rooms()
 }
 
@@ -65,8 +63,8 @@ fn pairs_of_plans_of_5_to_7_rooms() {
     assert!(same < PAIRS / 10, "most pairs of random plans differ");
 }
 
-/// Plans that differ only in what touches across a segment, and plans that
-/// look alike and are not equivalent.
+/// Plans that differ only in what shares a piece of edge across a segment, and
+/// plans that look alike and are not equivalent.
 #[test]
 fn pairs_that_look_alike() {
     // The upper cut left of the lower one, and right of it.

@@ -1,7 +1,8 @@
 //! What the sheet, 000 and 001 print.
 
 use super::rooms;
-use crate::{Refusal, Relation, Room, Triple};
+use crate::Relation::{self, Below, Left};
+use crate::{Refusal, Room, Triple};
 
 /// The label lists among the sheet's worked plans that are accepted, with their
 /// records.
@@ -56,19 +57,136 @@ pub const DRAWING: [[u16; 4]; 5] = [
     [2, 4, 5, 5],
 ];
 
-/// Every pair of its positions, with the relation of the first to the second
-/// and whether the two touch: the room at position 3 has the others round it.
-pub const PAIRS: [((u8, u8), (Relation, bool)); 10] = [
-    ((1, 2), (Relation::Below, true)),
-    ((1, 3), (Relation::Below, true)),
-    ((1, 4), (Relation::Left, true)),
-    ((1, 5), (Relation::Below, false)),
-    ((2, 3), (Relation::Left, true)),
-    ((2, 4), (Relation::Left, false)),
-    ((2, 5), (Relation::Left, true)),
-    ((3, 4), (Relation::Left, true)),
-    ((3, 5), (Relation::Below, true)),
-    ((4, 5), (Relation::Below, true)),
+/// Two positions, the relation of the first to the second and whether the two
+/// touch.
+pub type Pair = ((u8, u8), (Relation, bool));
+
+/// Every pair of its positions: the room at position 3 has the others round it
+/// and a segment in common with each. The first and the last one, and the
+/// second and the fourth, have none.
+pub const PAIRS: [Pair; 10] = [
+    ((1, 2), (Below, true)),
+    ((1, 3), (Below, true)),
+    ((1, 4), (Left, true)),
+    ((1, 5), (Below, false)),
+    ((2, 3), (Left, true)),
+    ((2, 4), (Left, false)),
+    ((2, 5), (Left, true)),
+    ((3, 4), (Left, true)),
+    ((3, 5), (Below, true)),
+    ((4, 5), (Below, true)),
+];
+
+/// Plans with every pair of their positions, worked by hand: the labels, the
+/// record, and the pairs in which the first position is the smaller one.
+pub const ASKED: [(&[u8], &[u8], &[Pair]); 9] = [
+    (&[4, 1, 3, 5, 2], &LISTED, &PAIRS),
+    // Two rows of two rooms: the segment between the rows supports all four,
+    // so also 1 and 4, from opposite sides, which share no piece of edge in
+    // the drawing.
+    (
+        &[3, 4, 1, 2],
+        &[0x04, 0x47, 0x00],
+        &[
+            ((1, 2), (Left, true)),
+            ((1, 3), (Below, true)),
+            ((1, 4), (Below, true)),
+            ((2, 3), (Below, true)),
+            ((2, 4), (Below, true)),
+            ((3, 4), (Left, true)),
+        ],
+    ),
+    // Three rooms side by side: 1 and 3 hang on outline sides alone.
+    (
+        &[1, 2, 3],
+        &[0x03, 0x48],
+        &[
+            ((1, 2), (Left, true)),
+            ((1, 3), (Left, false)),
+            ((2, 3), (Left, true)),
+        ],
+    ),
+    // And one on another.
+    (
+        &[3, 2, 1],
+        &[0x03, 0xb4],
+        &[
+            ((1, 2), (Below, true)),
+            ((1, 3), (Below, false)),
+            ((2, 3), (Below, true)),
+        ],
+    ),
+    // Three rooms under a bar: the segment between supports 1 and 3 from the
+    // same side.
+    (
+        &[2, 3, 4, 1],
+        &[0x04, 0x4a, 0x80],
+        &[
+            ((1, 2), (Left, true)),
+            ((1, 3), (Left, true)),
+            ((1, 4), (Below, true)),
+            ((2, 3), (Left, true)),
+            ((2, 4), (Below, true)),
+            ((3, 4), (Below, true)),
+        ],
+    ),
+    // Three on a bar: so 2 and 4.
+    (
+        &[4, 1, 2, 3],
+        &[0x04, 0x2b, 0x00],
+        &[
+            ((1, 2), (Below, true)),
+            ((1, 3), (Below, true)),
+            ((1, 4), (Below, true)),
+            ((2, 3), (Left, true)),
+            ((2, 4), (Left, true)),
+            ((3, 4), (Left, true)),
+        ],
+    ),
+    // A pile of three left of a bar: so 1 and 3.
+    (
+        &[3, 2, 1, 4],
+        &[0x04, 0xb5, 0x00],
+        &[
+            ((1, 2), (Below, true)),
+            ((1, 3), (Below, true)),
+            ((1, 4), (Left, true)),
+            ((2, 3), (Below, true)),
+            ((2, 4), (Left, true)),
+            ((3, 4), (Left, true)),
+        ],
+    ),
+    // A pile of three right of a bar: so 2 and 4.
+    (
+        &[1, 4, 3, 2],
+        &[0x04, 0x17, 0x80],
+        &[
+            ((1, 2), (Left, true)),
+            ((1, 3), (Left, true)),
+            ((1, 4), (Left, true)),
+            ((2, 3), (Below, true)),
+            ((2, 4), (Below, true)),
+            ((3, 4), (Below, true)),
+        ],
+    ),
+    // The rooms of FAR_ROOM: a bar between two pairs touches all, and no room
+    // beneath it has a segment in common with one above.
+    (
+        &[4, 5, 3, 1, 2],
+        &[0x05, 0x54, 0xe0],
+        &[
+            ((1, 2), (Left, true)),
+            ((1, 3), (Below, true)),
+            ((1, 4), (Below, false)),
+            ((1, 5), (Below, false)),
+            ((2, 3), (Below, true)),
+            ((2, 4), (Below, false)),
+            ((2, 5), (Below, false)),
+            ((3, 4), (Below, true)),
+            ((3, 5), (Below, true)),
+            ((4, 5), (Left, true)),
+        ],
+    ),
 ];
 
 /// The trap of a far room with smaller x: the first room is left of the last

@@ -1,8 +1,9 @@
 //! "Record in" and the question, by two walks over the record.
 
-use super::steps::{read, Step, NO_STEPS};
-use super::walks::{walk, walk_back, Seen, NOTHING_SEEN};
-use crate::{Corners, Refusal, Relation, Room};
+use super::steps::{read, Step, Steps, NO_STEPS};
+use super::walks::{walk, walk_back, AllSeen, Seen, NOTHING_SEEN};
+use crate::{Corners, Refusal, Relation};
+use std::hint::select_unpredictable;
 
 /// Record in, with the answers of [`crate::record_in`].
 ///
@@ -24,14 +25,16 @@ pub fn record_in(record: &[u8], labels: &mut [u8], corners: Corners<'_>) -> Resu
     let top = top.get_mut(..n).ok_or(Refusal::SliceShort)?;
 
     for place in 0..n {
-        (left[place], bottom[place]) = starts(place, steps[place], seen[place]);
+        let start = |across| start(place, steps[place], seen[place], across);
+        (left[place], bottom[place]) = (start(true), start(false));
     }
     walk_back(n, &steps, &seen, 0, |place, label, entered| {
         labels[place] = label;
         right[place] = entered;
     });
     for place in 0..n {
-        (right[place], top[place]) = ends(place, steps[place + 1], right[place]);
+        let end = |across| end(place, steps[place + 1], right[place], across);
+        (right[place], top[place]) = (end(true), end(false));
     }
     Ok(n)
 }
@@ -64,26 +67,9 @@ pub fn question(record: &[u8], first: u8, second: u8) -> Result<(Relation, bool)
             found[1] = (label, entered);
         }
     });
-    let [one, other] = [0, 1].map(|which| {
-        let place = places[which];
-        let (left, bottom) = starts(place, steps[place], seen[place]);
-        let (right, top) = ends(place, steps[place + 1], found[which].1);
-        Room {
-            left,
-            bottom,
-            right,
-            top,
-        }
-    });
-
-    // A room left of another one can only share an upright edge with it, and
-    // one below another one only a level edge.
     let is_left = found[0].0 < found[1].0;
-    let touch = if is_left {
-        one.right == other.left && one.bottom.max(other.bottom) < one.top.min(other.top)
-    } else {
-        one.top == other.bottom && one.left.max(other.left) < one.right.min(other.right)
-    };
+    let entered = found.map(|(_, entered)| entered);
+    let touch = touch(n, &steps, &seen, places, entered);
     let relation = match (is_left, first == earlier) {
         (true, true) => Relation::Left,
         (true, false) => Relation::Right,
@@ -93,34 +79,62 @@ pub fn question(record: &[u8], first: u8, second: u8) -> Result<(Relation, bool)
     Ok((relation, touch))
 }
 
-/// The left and the bottom of the room at a place: the position before it and
-/// the newest one on the other side, as the step to it tells.
-fn starts(place: usize, step: Step, seen: Seen) -> (u16, u16) {
-    let (before, newest) = (place as u16, seen.newest());
-    if step.goes_down() {
-        (newest, before)
-    } else {
-        (before, newest)
-    }
+/// Whether the rooms at two places touch, of which the earlier one comes first.
+/// For each, `entered` is what the walk from the back gave.
+///
+/// In the drawing every line from 1 to n − 1 has at most one segment, and the
+/// lines 0 and n have the outline sides. So two rooms touch exactly if they
+/// have a line in common that is not one of those. As the earlier room is left
+/// of the later one or below it, there are three ways to have one:
+///
+/// - The earlier room ends where the later one starts. This is inside.
+/// - Both start there. The earlier room starts before the place of the later
+///   one, so this is where the later one starts the other way.
+/// - Both end there. The later room ends after the position of the earlier
+///   one, so this is where the earlier one ends the other way.
+///
+/// Nothing of it can be foreseen, so there are no branches.
+#[inline(always)]
+fn touch(
+    n: usize,
+    steps: &Steps,
+    seen: &AllSeen,
+    [earlier, later]: [usize; 2],
+    entered: [u16; 2],
+) -> bool {
+    let start_of_earlier = |across| start(earlier, steps[earlier], seen[earlier], across);
+    let end_of_earlier = |across| end(earlier, steps[earlier + 1], entered[0], across);
+    let end_of_later = |across| end(later, steps[later + 1], entered[1], across);
+
+    // Whether it is across or up that the later room starts at the newest one,
+    // and then, that the earlier one ends before what enters the gap.
+    let (newest, across) = (seen[later].newest(), steps[later].goes_down());
+    let meet = (end_of_earlier(across) == newest) | (end_of_earlier(!across) == later as u16);
+    let start_together = (start_of_earlier(across) == newest) & (newest > 0);
+    let across = steps[earlier + 1].goes_down();
+    let end_together = (end_of_later(across) == entered[0]) & (usize::from(entered[0]) < n);
+    meet | start_together | end_together
 }
 
-/// The right and the top of the room at a place: the position itself, and one
-/// less than that which first enters the gap on the other side, as the step
-/// from it tells.
-fn ends(place: usize, step: Step, entered: u16) -> (u16, u16) {
-    let position = place as u16 + 1;
-    if step.goes_down() {
-        (entered, position)
-    } else {
-        (position, entered)
-    }
+/// Where the room at a place starts across, its left, or else its bottom: the
+/// position before it or the newest one on the other side, as the step to it
+/// tells.
+fn start(place: usize, step: Step, seen: Seen, across: bool) -> u16 {
+    select_unpredictable(step.goes_down() == across, seen.newest(), place as u16)
+}
+
+/// Where the room at a place ends across, its right, or else its top: the
+/// position itself, or one less than that which first enters the gap on the
+/// other side, as the step from it tells.
+fn end(place: usize, step: Step, entered: u16, across: bool) -> u16 {
+    select_unpredictable(step.goes_down() == across, entered, place as u16 + 1)
 }
 
 #[cfg(test)]
 mod tests {
     use crate::cases::walk::random_list;
     use crate::cases::Random;
-    use crate::{fast, plan_of, question, record_in, record_of, TRIPLES};
+    use crate::{fast, plan_of, question, record_in, record_of, Questions, TRIPLES};
 
     /// Compares the two versions of "Record in" on slices of `capacity` entries.
     fn compare_into(record: &[u8], capacity: usize) {
@@ -144,6 +158,7 @@ mod tests {
             assert_eq!(answers.0, answers.1, "{record:02x?}");
             return;
         };
+        let questions = Questions::about(plan);
         let n = record[0];
         for capacity in [0, usize::from(n) - 1, usize::from(n), usize::from(n) + 1] {
             compare_into(record, capacity);
@@ -151,7 +166,7 @@ mod tests {
         for first in 0..=n.saturating_add(1) {
             for second in 0..=n.saturating_add(1) {
                 let answer = fast::question(record, first, second);
-                let defined = plan.question(first, second);
+                let defined = questions.answer(first, second);
                 assert_eq!(answer, defined, "{record:02x?}, {first} and {second}");
             }
         }

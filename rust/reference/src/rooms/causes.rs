@@ -2,7 +2,7 @@
 
 use std::collections::BTreeMap;
 
-use super::ranks::ranked;
+use super::ranks::{far_sides, ranked};
 use crate::labels::room_count;
 use crate::{Refusal, Room};
 
@@ -41,10 +41,9 @@ pub(super) fn floorplan_of(rooms: &[Room]) -> Result<Floorplan, Refusal> {
 }
 
 /// The number of rooms on each unit square of the outline, which by ranks is
-/// the box from 0 to the largest right and the largest top.
+/// the box from 0 to its far sides.
 fn rooms_on_squares(rooms: &[Room]) -> Vec<usize> {
-    let width = rooms.iter().map(|room| room.right).max().unwrap_or(0);
-    let height = rooms.iter().map(|room| room.top).max().unwrap_or(0);
+    let (width, height) = far_sides(rooms);
     let square = |x: u16, y: u16| usize::from(x) * usize::from(height) + usize::from(y);
 
     let mut counts = vec![0; square(width, 0)];

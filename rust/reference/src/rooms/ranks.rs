@@ -30,6 +30,14 @@ pub(super) fn ranked(rooms: &[Room]) -> Vec<Room> {
         .collect()
 }
 
+/// Where the right and the top side of the outline are, the smallest box round
+/// all rooms. By ranks the left and the bottom side are at 0.
+pub(super) fn far_sides(ranked: &[Room]) -> (u16, u16) {
+    let right = ranked.iter().map(|room| room.right).max();
+    let top = ranked.iter().map(|room| room.top).max();
+    (right.unwrap_or(0), top.unwrap_or(0))
+}
+
 /// The rank of each coordinate.
 fn ranks(coordinates: impl Iterator<Item = u16>) -> BTreeMap<u16, u16> {
     let rising: BTreeSet<u16> = coordinates.collect();

@@ -2,7 +2,7 @@
 
 use std::collections::BTreeSet;
 
-use crate::touch::{Edge, Line};
+use crate::edge::{Edge, Line};
 use crate::Room;
 
 /// A segment: like an edge, a piece of a line from one place on it to
@@ -20,13 +20,20 @@ pub(super) struct Supports {
     pub(super) top: Segment,
 }
 
-/// The segments that support each room, in list order.
+impl Supports {
+    /// All four.
+    pub(super) fn all(&self) -> [Segment; 4] {
+        [self.left, self.right, self.bottom, self.top]
+    }
+}
+
+/// The segments that support each room of a floorplan, in list order.
 pub(super) fn supports_of(rooms: &[Room]) -> Vec<Supports> {
-    let pieces = Pieces::of(rooms);
+    let segments = Segments::of(rooms);
     rooms
         .iter()
         .map(|room| {
-            let [left, right, bottom, top] = room.edges().map(|edge| pieces.segment_with(edge));
+            let [left, right, bottom, top] = room.edges().map(|edge| segments.holding(edge));
             Supports {
                 left,
                 right,
@@ -38,37 +45,50 @@ pub(super) fn supports_of(rooms: &[Room]) -> Vec<Supports> {
 }
 
 /// The segments of a floorplan, each once.
+///
+/// # Panics
+///
+/// At times if there is a room without width or height, which no floorplan
+/// has.
 #[must_use]
 pub fn segments(rooms: &[Room]) -> BTreeSet<Segment> {
-    let supports = supports_of(rooms);
-    supports
-        .iter()
-        .flat_map(|s| [s.left, s.right, s.bottom, s.top])
-        .collect()
+    supports_of(rooms).iter().flat_map(Supports::all).collect()
 }
 
-/// The unit pieces of all room edges: the line of each, and where it begins.
-struct Pieces(BTreeSet<(Line, u16)>);
+/// The segments of a floorplan in order: by lines, and on one line by where
+/// they begin.
+struct Segments(Vec<Segment>);
 
-impl Pieces {
+impl Segments {
+    /// A segment is a longest unbroken straight run of room edges. So it
+    /// begins with a unit piece of an edge, and goes on for as long as another
+    /// piece follows on its line.
     fn of(rooms: &[Room]) -> Self {
         let edges = rooms.iter().flat_map(|room| room.edges());
         let pieces = edges.flat_map(|edge| (edge.from..edge.to).map(move |at| (edge.line, at)));
-        Self(pieces.collect())
+        let mut pieces: Vec<(Line, u16)> = pieces.collect();
+        pieces.sort_unstable();
+        pieces.dedup();
+
+        let mut runs: Vec<Segment> = Vec::new();
+        for (line, from) in pieces {
+            match runs.last_mut() {
+                Some(Segment(run)) if (run.line, run.to) == (line, from) => run.to += 1,
+                _ => runs.push(Segment(Edge {
+                    line,
+                    from,
+                    to: from + 1,
+                })),
+            }
+        }
+        Self(runs)
     }
 
-    /// The segment that holds an edge. A segment is a longest unbroken
-    /// straight run of room edges, so this is the edge, made longer at both
-    /// ends for as long as another piece follows on its line.
-    fn segment_with(&self, edge: Edge) -> Segment {
-        let mut run = edge;
-        while run.from > 0 && self.0.contains(&(run.line, run.from - 1)) {
-            run.from -= 1;
-        }
-        while self.0.contains(&(run.line, run.to)) {
-            run.to += 1;
-        }
-        Segment(run)
+    /// The segment that holds an edge: of those on its line the last one that
+    /// begins no later.
+    fn holding(&self, edge: Edge) -> Segment {
+        let begins_by_then = |run: &Segment| (run.0.line, run.0.from) <= (edge.line, edge.from);
+        self.0[self.0.partition_point(begins_by_then) - 1]
     }
 }
 
@@ -79,7 +99,7 @@ mod tests {
     use super::{segments, supports_of, Segment};
     use crate::cases::rooms;
     use crate::drawing;
-    use crate::touch::{Edge, Line};
+    use crate::edge::{Edge, Line};
 
     #[test]
     fn the_segments_of_a_pinwheel() {

@@ -1,8 +1,9 @@
-//! Records are equal exactly where floorplans are equivalent.
+//! Records are equal exactly where floorplans are equivalent, and equivalent
+//! floorplans have the same rooms touching.
 
-use crate::help::ask;
+use crate::help::{ask, touching};
 use reference::cases::{baxter_lists, rooms, Random};
-use reference::{drawing, equivalent, Room};
+use reference::{drawing, equivalent, plan_of, Room};
 use std::collections::BTreeMap;
 
 #[test]
@@ -63,12 +64,17 @@ struct Kinds {
 }
 
 impl Kinds {
-    /// A floorplan with a known record is equivalent to the first with it.
+    /// A floorplan with a known record is equivalent to the first with it, and
+    /// the same of its rooms touch as in the drawing.
     fn meet(&mut self, rooms: &[Room]) {
         if rooms.len() > 6 {
             return;
         }
         if let Ok(answer) = ask(rooms) {
+            let drawn = plan_of(&answer.record).unwrap().rooms;
+            let by_position = touching(&drawn, &[1, 2, 3, 4, 5, 6]);
+            assert_eq!(touching(rooms, &answer.positions), by_position, "{rooms:?}");
+
             let first = self.first.entry(answer.record);
             let first = first.or_insert_with(|| rooms.to_vec());
             assert!(equivalent(first, rooms), "{first:?} and {rooms:?}");

@@ -1,6 +1,7 @@
 //! What the tests of this folder share.
 
-use reference::{rooms_in, Numbering, Refusal, Room};
+use reference::{rooms_in, Contacts, Numbering, Refusal, Room};
+use std::collections::BTreeSet;
 
 /// Asks Rooms in, with slices that are longer than needed.
 pub fn ask(rooms: &[Room]) -> Result<Numbering, Refusal> {
@@ -27,4 +28,16 @@ pub fn label_list(answer: &Numbering) -> Vec<u8> {
             label
         })
         .collect()
+}
+
+/// The pairs of positions whose rooms touch, given the position of each room.
+pub fn touching(rooms: &[Room], positions: &[u8]) -> BTreeSet<[u8; 2]> {
+    let contacts = Contacts::of(rooms);
+    let mut pairs = BTreeSet::new();
+    for a in 0..rooms.len() {
+        for b in (0..rooms.len()).filter(|&b| b != a && contacts.touch(a, b)) {
+            pairs.insert([positions[a], positions[b]]);
+        }
+    }
+    pairs
 }

@@ -1,6 +1,6 @@
 //! Long lists.
 
-use crate::help::{ask, label_list};
+use crate::help::{ask, label_list, touching};
 use reference::cases::walk::{random_list, Walked};
 use reference::cases::Random;
 use reference::{drawing, labels_in, plan_of, Room};
@@ -44,16 +44,20 @@ fn cut_254_times(random: &mut Random) -> Vec<Room> {
 fn the_record_of_255_rooms_stands_for_their_label_list() {
     let mut random = Random::from_seed(7);
     for _ in 0..20 {
-        let answer = ask(&cut_254_times(&mut random)).unwrap();
+        let rooms = cut_254_times(&mut random);
+        let answer = ask(&rooms).unwrap();
         assert_eq!(answer.record.len(), 97);
         let plan = plan_of(&answer.record).unwrap();
         assert_eq!(plan.labels, label_list(&answer));
 
-        // The drawing of the record is an equal floorplan.
+        // The drawing of the record is an equal floorplan, and the same rooms
+        // touch in it.
         let again = ask(&plan.rooms).unwrap();
         assert_eq!(again.record, answer.record);
         assert_eq!(again.labels, plan.labels);
         assert_eq!(again.positions, (1..=255).collect::<Vec<u8>>());
+        let pairs = touching(&rooms, &answer.positions);
+        assert_eq!(pairs, touching(&plan.rooms, &again.positions));
     }
 }
 
