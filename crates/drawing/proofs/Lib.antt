@@ -1,2 +1,3 @@
 -- The laws that the proofs of the functions cite.
 pub mod Cases
+pub mod Lines

@@ -4,6 +4,7 @@ pub mod Relation
 -- What the code writes, and what it asks of two rooms
 pub mod Corners
 pub mod InnerLine
+pub mod Within
 -- Theorems, and what they rest on
 pub mod Nearest
 pub mod Walked

@@ -1,12 +1,13 @@
 // A room of a floorplan, and how two rooms stand to each other. The definitions of the grid drawing and its theorems stand in specs/.
 ghost use mathlib.Core.Path.{_≡_};
-ghost use mathlib.Core.Logic.{_≢_};
-ghost use Prim.Native.Nat.{suc, _≤_};
+ghost use mathlib.Core.Logic.{_≢_, _⊎_};
+ghost use Prim.Native.Nat.{suc, _≤_, _<_};
 ghost use lib.ListN.{length};
 ghost use Rattle.finite.specs.Decide.{Tells};
 ghost use Rattle.record.specs.Labels.{labelAt};
 ghost use Rattle.drawing.specs.Relation.{relationOf};
 ghost use Rattle.drawing.specs.InnerLine.{InnerLineOf, ShareInnerLine};
+ghost use Rattle.drawing.specs.Within.{Within};
 use record::Position;
 
 // "A room is four unsigned 16-bit numbers: left, bottom, right, top. Right is greater
@@ -57,22 +58,25 @@ pub fn relation_of(labels: &[u8], first: Position, second: Position) -> Relation
     Relation::Above
 }
 
-// Whether x is one of the lines within the outline of n rooms, 1 to n - 1, and is the line c or the line d. All of it is looked at, since
-// no jump here can be foreseen.
-fn inner_line_of(n: usize, c: u16, d: u16, x: u16) -> bool
-    ensures { λ r. ⌜ Tells r (InnerLineOf n c d x) ⌝ }
+// Whether the stretches from a to b and from c to d, both within 0 to n, start or end on one of the lines 1 to n - 1. Where one ends and
+// the other starts is such a line; where both start or both end may be the outline. All of it is looked at, since no jump here can be
+// foreseen.
+fn share_end(n: usize, a: u16, b: u16, c: u16, d: u16) -> bool
+    requires { ⌜ (a < b) × (b ≤ n) × (c < d) × (d ≤ n) ⌝ }
+    ensures { λ r. ⌜ Tells r (InnerLineOf n c d a ⊎ InnerLineOf n c d b) ⌝ }
 {
-    (0 < x) & (((x as usize) < n) & ((x == c) | (x == d)))
+    let start = (a == c) & (0 < a);
+    let end = (b == d) & ((b as usize) < n);
+    ((a == d) | start) | ((b == c) | end)
 }
 
 // Whether two rooms of the drawing of n rooms share a line within the outline: an upright one with the left or the right edge of each
 // on it, or a flat one with the bottom or the top edge of each. Such a line has one segment, so this tells whether the two touch.
 pub fn share_inner_line(n: usize, first: Room, second: Room) -> bool
+    requires { ⌜ Within n first × Within n second ⌝ }
     ensures { λ r. ⌜ Tells r (ShareInnerLine n first second) ⌝ }
 {
-    let left = inner_line_of(n, second.left, second.right, first.left);
-    let right = inner_line_of(n, second.left, second.right, first.right);
-    let bottom = inner_line_of(n, second.bottom, second.top, first.bottom);
-    let top = inner_line_of(n, second.bottom, second.top, first.top);
-    (left | right) | (bottom | top)
+    let across = share_end(n, first.left, first.right, second.left, second.right);
+    let up = share_end(n, first.bottom, first.top, second.bottom, second.top);
+    across | up
 }

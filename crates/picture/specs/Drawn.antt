@@ -8,7 +8,7 @@ use Rattle.record.specs.Labels.{labelAt}
 use Rattle.record.specs.Read.{labelsOf}
 use Rattle.drawing.specs.declared.Room.{Room}
 use Rattle.drawing.specs.Drawing.{roomAt}
-use Rattle.drawing.specs.Squares.{covers-own, room-inside}
+use Rattle.drawing.specs.Within.{Within, drawn-within}
 use Rattle.drawing.specs.Corners.{roomIn}
 use Rattle.contacts.specs.GridLine.{lineBetween}
 use Rattle.answers.specs.declared.RecordAnswer.the-variants.{Read}
@@ -17,7 +17,6 @@ use Rattle.text.specs.Put.{Put}
 use Rattle.text.specs.Puts.{put-none, put-more, put-as}
 use Rattle.text.specs.Viewed.{Local, Written, room-read}
 use Rattle.shapes.specs.Picture.{rectangle, names, roomsDrawn, segmentDrawn, segmentsDrawn, head, picture}
-use Rattle.shapes.specs.Within.{Within}
 
 module _ (label : ℕ → ℕ) (room : ℕ → Room) (n : ℕ) where
   -- ---- rooms, before the first turn
@@ -62,16 +61,10 @@ module _ (label : ℕ → ℕ) (room : ℕ → Room) (n : ℕ) where
   all-segments e p = put-as (ap (λ (k : ℕ). segmentsDrawn label room n k) e) p
 
 -- ---- what Record in writes is a plan
-within-drawn : (f : ℕ → ℕ) (n k : ℕ) → k < n → Within n (roomAt f n (suc k))
-within-drawn f n k h =
-    let own = covers-own f n (suc k) (omega arith) (omega arith) in
-    let inside = room-inside f n (suc k) (omega arith) (omega arith) in
-    omega arith
-
 pub within-read : {bytes : List ℕ} {n : ℕ} {labels left bottom right top : List ℕ} → Written bytes (Read n) labels left bottom right top
     → (k : ℕ) → k < n → Within n (roomIn left bottom right top (suc k))
 within-read {bytes} {n} w k h =
-    subst (λ (room : Room). Within n room) (sym (room-read w k h)) (within-drawn (labelAt (labelsOf bytes)) n k h)
+    subst (λ (room : Room). Within n room) (sym (room-read w k h)) (drawn-within (labelAt (labelsOf bytes)) n (suc k) (omega arith) h)
 
 -- ---- the picture looks at positions 1 to n alone
 module _ (label other : ℕ → ℕ) (room another : ℕ → Room) (n : ℕ)

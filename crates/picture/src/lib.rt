@@ -4,7 +4,7 @@ ghost use lib.ListN.{length};
 ghost use Rattle.text.specs.Put.{Put};
 ghost use Rattle.text.specs.Places.{viewIn};
 ghost use Rattle.shapes.specs.Picture.{rooms, segments, picture};
-ghost use Rattle.shapes.specs.Within.{Plan};
+ghost use Rattle.shapes.specs.Plan.{Plan};
 use record::Label;
 use record::Position;
 

@@ -2,4 +2,4 @@
 pub mod Picture
 pub mod M101
 -- What the inner functions ask.
-pub mod Within
+pub mod Plan

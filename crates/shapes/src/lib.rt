@@ -3,10 +3,10 @@
 ghost use mathlib.Core.Path.{_≡_};
 ghost use Prim.Native.Nat.{_+_, _≤_};
 ghost use lib.ListN.{length};
+ghost use Rattle.drawing.specs.Within.{Within};
 ghost use Rattle.contacts.specs.GridLine.{lineBetween};
 ghost use Rattle.text.specs.Put.{Put};
 ghost use Rattle.shapes.specs.Picture.{shortSide, rectangle, names, segmentDrawn, head};
-ghost use Rattle.shapes.specs.Within.{Within};
 use drawing::Room;
 use record::Label;
 use record::Position;

@@ -6,7 +6,7 @@ use Rattle.record.specs.Labels.{labelAt}
 use Rattle.drawing.specs.Corners.{roomIn}
 use Rattle.text.specs.Put.{Put}
 use Rattle.shapes.specs.Picture.{segmentsDrawn}
-use Rattle.shapes.specs.Within.{Within}
+use Rattle.drawing.specs.Within.{Within}
 use Rattle.picture.specs.Drawn.{no-segments, one-segment, all-segments}
 use Rattle.picture.proofs.put_segments.Statement.{statement}
 use Rattle.picture.proofs.put_segments.Tie as tie

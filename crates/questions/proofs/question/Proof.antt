@@ -2,14 +2,18 @@
 use mathlib.Core.Bool.{Bool}
 use mathlib.Core.Logic.{_⊎_, inl, inr}
 use mathlib.Core.Path.{_≡_, sym, subst, subst₂, _∙_}
-use Prim.Native.Nat.{_≤_}
+use Prim.Native.Nat.{ℕ, _≤_}
 use native.Mathlib.Omega.{arith}
 use lib.ListN.{length, replicate}
 use Rattle.finite.specs.Decide.{Tells}
 use Rattle.reading.specs.Answer.{Given, Leaves}
 use Rattle.reading.specs.SameRefusal.{same-refusal}
 use Rattle.reading.specs.declared.Reading.{Reading}
+use Rattle.record.specs.Labels.{labelAt}
+use Rattle.record.specs.Read.{kindOf, labelsOf}
+use Rattle.drawing.specs.Drawing.{roomAt}
 use Rattle.drawing.specs.InnerLine.{ShareInnerLine}
+use Rattle.drawing.specs.Within.{Within, drawn-within}
 use Rattle.drawing.specs.declared.Room.{Room}
 use Rattle.questions.specs.Answer.{Outside}
 use Rattle.questions.specs.declared.QuestionAnswer.the-variants.{Refused}
@@ -123,8 +127,38 @@ room-at-requires c κs = both (c .before .before .before .before .before .before
 room-at-requires-2 : tie.Need-room-at-requires-2
 room-at-requires-2 c κs = both (c .before .before .before .before .before .before .before .before .before .before .before .before) .2
 
+-- the two rooms are those of the drawing
+drawn : (r : lts.After-room-at2 (earlier-reads.Asked, earlier-reads.Learnt, read-reads.Asked, read-reads.Learnt, outside-reads.Asked, outside-reads.Learnt, relation-of-reads.Asked, relation-of-reads.Learnt, room-at-reads.Asked, room-at-reads.Learnt, share-reads.Asked, share-reads.Learnt) reads.Pre reads.Post)
+    → let e = r .before .before .before .before .before .before .before .before .before .before .before .before .before in
+    let k = e .before .before .before .before in
+    let a = k .before .before .before .before .before .before .before .before .before .before .before .before .before .before .args in
+    let room = roomAt (labelAt (labelsOf (a .«record» .now))) (kindOf (a .«record» .now)) in
+    (r .before .before .before .before .before .room-at .result ≡ room (a .first)) × (r .room-at2 .result ≡ room (a .second))
+drawn r =
+    let e = r .before .before .before .before .before .before .before .before .before .before .before .before .before in
+    let k = e .before .before .before .before in
+    let a = k .before .before .before .before .before .before .before .before .before .before .before .before .before .before .args in
+    let g = given k in
+    let at = both e in
+    let past = k .before .before .before .before .before .before .before .before .before .before .before .before .earlier .ensures in
+    let left = g .long (g .few) (omega (arith, past .0, at .0, at .1)) in (
+      r .before .before .before .before .before .room-at .ensures ∙ room-is (g .kind) (g .readable) left (g .lefts) (g .bottoms) (a .first) (at .0) (past .0) (at .1),
+      r .room-at2 .ensures ∙ room-is (g .kind) (g .readable) left (g .lefts) (g .bottoms) (a .second) (at .2) (past .1) (at .3),
+    )
+
 share-inner-line-requires : tie.Need-share-inner-line-requires
-share-inner-line-requires c κs = search needs
+share-inner-line-requires c κs =
+    let e = c .before .before .before .before .before .before .before .before .before .before .before .before .before in
+    let k = e .before .before .before .before in
+    let a = k .before .before .before .before .before .before .before .before .before .before .before .before .before .before .args in
+    let g = given k in
+    let at = both e in
+    let rooms = drawn c in
+    let f = labelAt (labelsOf (a .«record» .now)) in
+    let n = kindOf (a .«record» .now) in (
+      subst₂ (λ (m : ℕ) (room : Room). Within m room) (sym (g .kind)) (sym (rooms .0)) (drawn-within f n (a .first) (at .0) (omega (arith, at .1, g .kind))),
+      subst₂ (λ (m : ℕ) (room : Room). Within m room) (sym (g .kind)) (sym (rooms .1)) (drawn-within f n (a .second) (at .2) (omega (arith, at .3, g .kind))),
+    )
 
 returns-4 : tie.Need-returns-4
 returns-4 c =
@@ -142,11 +176,10 @@ returns-5 c =
     let at = both e in
     let past = k .before .before .before .before .before .before .before .before .before .before .before .before .earlier .ensures in
     let left = g .long (g .few) (omega (arith, past .0, at .0, at .1)) in
+    let rooms = drawn (c .before) in
     related-answer (g .kind) (g .readable) (a .first) (a .second) (inside e) (d .if3 .left)
     (w .relation-of .ensures ∙ relation-is (g .kind) (g .readable) left (a .first) (a .second) (at .0) (past .0) (at .1) (at .2) (past .1) (at .3))
-    (subst₂ (λ (one other : Room). Tells (c .share-inner-line .result) (ShareInnerLine (k .before .n .given .0 .0) one other))
-    (c .before .before .before .before .before .before .room-at .ensures ∙ room-is (g .kind) (g .readable) left (g .lefts) (g .bottoms) (a .first) (at .0) (past .0) (at .1))
-    (c .before .room-at2 .ensures ∙ room-is (g .kind) (g .readable) left (g .lefts) (g .bottoms) (a .second) (at .2) (past .1) (at .3))
+    (subst₂ (λ (one other : Room). Tells (c .share-inner-line .result) (ShareInnerLine (k .before .n .given .0 .0) one other)) (rooms .0) (rooms .1)
     (c .share-inner-line .ensures))
 
 pub question-spec : {M : Type 1} → statement M
