@@ -14,7 +14,7 @@ use Rattle.drawing.specs.declared.Room.{Room}
 use Rattle.drawing.specs.Drawing.{roomAt, drawingOf}
 use Rattle.rooms.specs.Outline.{roomIn, outline}
 use Rattle.rooms.specs.Segment.{Direction, upright, flat, Stretch, Drawn, Segment, Side, leftEdge, rightEdge, bottomEdge, topEdge, edge}
-use Rattle.rooms.specs.Plan.{Plan, Floorplan, roomOf, UprightEdge, swap}
+use Rattle.rooms.specs.Plan.{Floorplan, roomOf, UprightEdge}
 use Rattle.rooms.specs.PlanOf.{planOf}
 use Rattle.rooms.specs.Steps.{upright→drawn, drawn→upright, flat→drawn, drawn→flat}
 use Rattle.rooms.specs.SegmentOfEdge.{overlap→one-segment}

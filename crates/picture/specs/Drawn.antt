@@ -7,7 +7,6 @@ use native.Mathlib.Numerals.{add-one}
 use Rattle.record.specs.Labels.{labelAt}
 use Rattle.record.specs.Read.{labelsOf}
 use Rattle.drawing.specs.declared.Room.{Room}
-use Rattle.drawing.specs.Drawing.{roomAt}
 use Rattle.drawing.specs.Within.{Within, drawn-within}
 use Rattle.drawing.specs.Corners.{roomIn}
 use Rattle.contacts.specs.GridLine.{lineBetween}

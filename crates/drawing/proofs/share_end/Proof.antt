@@ -1,5 +1,5 @@
 -- `share_end` meets its contract: each comparison tells whether it holds, and for stretches within the outline they tell of its lines.
-use mathlib.Core.Bool.{Bool, _&&_, _||_}
+use mathlib.Core.Bool.{_&&_, _||_}
 use mathlib.Core.Path.{_≡_}
 use mathlib.Core.Logic.{_⊎_}
 use lib.Dec.{eqb, ltb}
