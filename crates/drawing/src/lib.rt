@@ -58,16 +58,16 @@ pub fn relation_of(labels: &[u8], first: Position, second: Position) -> Relation
     Relation::Above
 }
 
-// Whether the stretches from a to b and from c to d, both within 0 to n, start or end on one of the lines 1 to n - 1. Where one ends and
-// the other starts is such a line; where both start or both end may be the outline. All of it is looked at, since no jump here can be
-// foreseen.
-fn share_end(n: usize, a: u16, b: u16, c: u16, d: u16) -> bool
-    requires { ⌜ (a < b) × (b ≤ n) × (c < d) × (d ≤ n) ⌝ }
-    ensures { λ r. ⌜ Tells r (InnerLineOf n c d a ⊎ InnerLineOf n c d b) ⌝ }
+// Whether the stretch from `from` to `to` and the one from `low` to `high`, both within 0 to n, have an end in common on one of the lines
+// 1 to n - 1. A line on which one starts and the other ends is one of these; where both start, or both end, may be the outline. All of it
+// is looked at, since no jump here can be foreseen.
+fn share_end(n: usize, from: u16, to: u16, low: u16, high: u16) -> bool
+    requires { ⌜ (from < to) × (to ≤ n) × (low < high) × (high ≤ n) ⌝ }
+    ensures { λ r. ⌜ Tells r (InnerLineOf n low high from ⊎ InnerLineOf n low high to) ⌝ }
 {
-    let start = (a == c) & (0 < a);
-    let end = (b == d) & ((b as usize) < n);
-    ((a == d) | start) | ((b == c) | end)
+    let both_start = (from == low) & (0 < from);
+    let both_end = (to == high) & ((to as usize) < n);
+    ((from == high) | both_start) | ((to == low) | both_end)
 }
 
 // Whether two rooms of the drawing of n rooms share a line within the outline: an upright one with the left or the right edge of each
