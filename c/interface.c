@@ -211,16 +211,26 @@ static void test_record_in(void) {
 
 static void test_question(void) {
     const uint8_t record[] = {0x05, 0x31, 0x70};
-    const uint8_t two_rows[] = {0x04, 0x47, 0x00}, three_in_a_row[] = {0x03, 0x48};
-    CHECK(nenturxo_question(record, 3, 1, 4) == NENTURXO_LEFT + NENTURXO_TOUCH);
-    CHECK(nenturxo_question(record, 3, 4, 1) == NENTURXO_RIGHT + NENTURXO_TOUCH);
+    const uint8_t two_rows[] = {0x04, 0x47, 0x00}, four_in_a_row[] = {0x04, 0x49, 0x00};
+    const int touching = NENTURXO_TOUCH, direct = NENTURXO_DIRECT + NENTURXO_TOUCH;
+    const uint8_t bar_over_three[] = {2, 3, 4, 1};
+    uint8_t under_a_bar[3];
+    CHECK(nenturxo_question(record, 3, 1, 4) == NENTURXO_LEFT + direct);
+    CHECK(nenturxo_question(record, 3, 4, 1) == NENTURXO_RIGHT + direct);
+    CHECK(nenturxo_question(record, 3, 5, 3) == NENTURXO_ABOVE + direct);
     CHECK(nenturxo_question(record, 3, 5, 1) == NENTURXO_ABOVE);
     CHECK(nenturxo_question(record, 3, 1, 5) == NENTURXO_BELOW);
     /* the segment between the rows supports both, from opposite sides */
-    CHECK(nenturxo_question(two_rows, 3, 1, 4) == NENTURXO_BELOW + NENTURXO_TOUCH);
-    CHECK(nenturxo_question(two_rows, 3, 4, 1) == NENTURXO_ABOVE + NENTURXO_TOUCH);
-    /* only sides of the outline support both */
-    CHECK(nenturxo_question(three_in_a_row, 2, 1, 3) == NENTURXO_LEFT);
+    CHECK(nenturxo_question(two_rows, 3, 1, 4) == NENTURXO_BELOW + direct);
+    CHECK(nenturxo_question(two_rows, 3, 4, 1) == NENTURXO_ABOVE + direct);
+    /* the segment under the bar supports both, but from the same side */
+    CHECK(nenturxo_labels_in(bar_over_three, 4, under_a_bar, 3) == 3);
+    CHECK(nenturxo_question(under_a_bar, 3, 1, 3) == NENTURXO_LEFT + touching);
+    CHECK(nenturxo_question(under_a_bar, 3, 3, 1) == NENTURXO_RIGHT + touching);
+    CHECK(nenturxo_question(under_a_bar, 3, 3, 4) == NENTURXO_BELOW + direct);
+    /* three steps, and only sides of the outline support both */
+    CHECK(nenturxo_question(four_in_a_row, 3, 1, 4) == NENTURXO_LEFT);
+    CHECK(nenturxo_question(four_in_a_row, 3, 2, 3) == NENTURXO_LEFT + direct);
     CHECK(nenturxo_question(record, 3, 0, 1) == -NENTURXO_POSITION_OUTSIDE);
     CHECK(nenturxo_question(record, 3, 1, 6) == -NENTURXO_POSITION_OUTSIDE);
     CHECK(nenturxo_question(record, 3, 2, 2) == -NENTURXO_POSITIONS_EQUAL);

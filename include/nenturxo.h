@@ -58,7 +58,7 @@ enum nenturxo_refusal {
     NENTURXO_TEXT_FORM = 18        /* text breaks the form or is longer than 4,096 bytes */
 };
 
-/* How a room stands to another one: the two low bits of what
+/* On which side of another room a room stands: the two low bits of what
  * nenturxo_question gives. */
 enum nenturxo_relation {
     NENTURXO_LEFT = 0,
@@ -67,8 +67,11 @@ enum nenturxo_relation {
     NENTURXO_BELOW = 3
 };
 
-/* What nenturxo_question adds where the two rooms touch. */
+/* What nenturxo_question adds where the two rooms touch, and where their
+ * relation is direct. Two rooms in a direct relation always touch, so it gives
+ * 0 to 3, 4 to 7 or 12 to 15. */
 #define NENTURXO_TOUCH 4
+#define NENTURXO_DIRECT 8
 
 /* A room. y grows upward. */
 typedef struct nenturxo_room {
@@ -118,12 +121,18 @@ int32_t nenturxo_record_in(const uint8_t *record, size_t length,
                            uint16_t *top, size_t top_capacity);
 
 /* The question: how the room at position `first` of a record stands to the
- * one at position `second`, and whether the two touch, that is, whether one
- * segment that is not an outline side supports both, from the same side or
- * from opposite sides. The answer is the same for every floorplan that has
- * the record.
+ * one at position `second`, and whether the two touch. The answer is the same
+ * for every floorplan that has the record.
  *
- * Gives an enum nenturxo_relation, and NENTURXO_TOUCH more where they touch.
+ * The relation is left, right, above or below. It is direct if one segment
+ * holds the edges with which the two rooms face each other; else it goes only
+ * through others, by a chain of two or more direct steps. Two rooms touch if
+ * one segment that is not an outline side supports both, from the same side or
+ * from opposite sides.
+ *
+ * Gives an enum nenturxo_relation, NENTURXO_TOUCH more where they touch and
+ * NENTURXO_DIRECT more where the relation is direct. With first and second
+ * exchanged it gives the opposite side, and the same of these two.
  * Refusals, in this order: 9, 10, 11, 14, 12, 13, 16, 17. */
 int32_t nenturxo_question(const uint8_t *record, size_t length,
                           uint8_t first, uint8_t second);

@@ -1,7 +1,7 @@
 -- Touch in the grid drawing, read off the corners: each of the lines 1 to n - 1 has one segment, so two edges on such a line are held by
 -- one segment. For any list of the labels 1 to n, each once, and so for any Baxter list. Places count from 0 and positions from 1.
 use mathlib.Core.Path.{_≡_, sym, subst, subst₂, _∙_}
-use mathlib.Core.Logic.{_⊎_, inl, inr, _↔_}
+use mathlib.Core.Logic.{_⊎_, inl, inr, ⊎-swap, _↔_}
 use mathlib.Core.List.{List}
 use Prim.Native.Nat.{ℕ, suc, _≤_, _<_}
 use native.Mathlib.Omega.{arith}
@@ -12,6 +12,7 @@ use Rattle.drawing.specs.Drawing.{roomAt, drawingOf}
 use Rattle.drawing.specs.InnerLine.{InnerLineOf, ShareInnerLine}
 use Rattle.rooms.specs.Outline.{roomIn}
 use Rattle.rooms.specs.Segment.{Direction, upright, flat, Stretch, Side, leftEdge, rightEdge, bottomEdge, topEdge, edge, Holds}
+use Rattle.rooms.specs.Orders.{OneSegment}
 use Rattle.rooms.specs.Plan.{Floorplan}
 use Rattle.rooms.specs.PlanOf.{planOf}
 use Rattle.rooms.specs.SegmentOfEdge.{segmentOf, segment-line, segment-holds}
@@ -79,6 +80,19 @@ module _ (labels : List ℕ) (once : EachOnce (labelAt labels) (length labels)) 
         ∙ sym (only .only (segmentOf rooms side a) (segment-holds rooms k side a ha .0) (segment-line rooms side a)))
         (segment-holds rooms k other b hb .1)
 
+    -- so one segment holds the two edges
+    pub on-line→one-segment : (other : Side) → line ≡ edge other (roomIn rooms b) .line → OneSegment rooms side other a b
+    on-line→one-segment other same =
+        let (segment, holds-a) = segment-holds rooms k side a ha in
+        record {
+          a< = ha;
+          b< = hb;
+          by = segmentOf rooms side a;
+          segment = segment;
+          holds-a = holds-a;
+          holds-b = supports-on-line other same;
+        }
+
     on-line→touches : (line ≡ edge side (roomIn rooms b) .line) ⊎ (line ≡ edge (opposite side) (roomIn rooms b) .line) → Touches rooms a b
     on-line→touches on =
         let (segment, holds-a) = segment-holds rooms k side a ha in
@@ -94,14 +108,11 @@ module _ (labels : List ℕ) (once : EachOnce (labelAt labels) (length labels)) 
           };
         }
 
-  turned : {A B : Type 0} → A ⊎ B → B ⊎ A
-  turned h = elim h [ inl x ↦ inr x | inr x ↦ inl x ]
-
   share→touches : ShareInnerLine n (roomIn rooms a) (roomIn rooms b) → Touches rooms a b
   share→touches (inl (inl (lo, hi, on))) = on-line→touches leftEdge lo hi on
-  share→touches (inl (inr (lo, hi, on))) = on-line→touches rightEdge lo hi (turned on)
+  share→touches (inl (inr (lo, hi, on))) = on-line→touches rightEdge lo hi (⊎-swap on)
   share→touches (inr (inl (lo, hi, on))) = on-line→touches bottomEdge lo hi on
-  share→touches (inr (inr (lo, hi, on))) = on-line→touches topEdge lo hi (turned on)
+  share→touches (inr (inr (lo, hi, on))) = on-line→touches topEdge lo hi (⊎-swap on)
 
 -- two rooms of the drawing touch exactly if they share an inner line
 pub drawing-touches-iff-share-inner-line : (labels : List ℕ) → EachOnce (labelAt labels) (length labels) → (a b : ℕ)

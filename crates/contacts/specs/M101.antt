@@ -1,6 +1,6 @@
 -- M-101: touch by segments. What is answered for a record and two positions is so in every floorplan that has the record, and the corners
 -- of the grid drawing tell it.
-use mathlib.Core.Path.{_≡_, sym, subst₂, _∙_}
+use mathlib.Core.Path.{_≡_, subst₂}
 use mathlib.Core.Logic.{inl, inr, _↔_}
 use mathlib.Core.List.{List}
 use Prim.Native.Nat.{ℕ, suc, _-_, _≤_, _<_}
@@ -14,13 +14,9 @@ use Rattle.rooms.specs.Causes.{AcceptedRooms}
 use Rattle.rooms.specs.Segment.{Stretch, Side, leftEdge, rightEdge, bottomEdge, topEdge}
 use Rattle.rooms.specs.LabelList.{positionOf, labelList}
 use Rattle.rooms.specs.Equivalent.{Equivalent}
-use Rattle.rooms.specs.Demand3.{BaxterOf, rooms-give-baxter}
-use Rattle.rooms.specs.PlanOf.{accepted→floorplan}
-use Rattle.rooms.specs.PartnerSegments.{same-labels→equivalent}
-use Rattle.rooms.specs.SameLabels.{equivalent→same-position}
-use Rattle.rooms.specs.GridLabels.{DrawnAs, baxter-gives-drawing, drawing-position}
 use Rattle.contacts.specs.Touches.{Supports, opposite, SupportsBoth, Touches, PositionsTouch}
 use Rattle.contacts.specs.TouchFacts.{touches-iff-partners-touch}
+use Rattle.contacts.specs.ByPosition.{ByPosition, by-position}
 use Rattle.contacts.specs.GridTouches.{drawing-touches-iff-share-inner-line}
 
 -- where one room touches another, that touches the one
@@ -50,35 +46,11 @@ m101-partners-touch = touches-iff-partners-touch
 pub m101-rooms-touch-iff-positions-touch : (rooms : List Room) → AcceptedRooms rooms → (a b : ℕ) → a < length rooms → b < length rooms
     → Touches rooms a b ↔ PositionsTouch (labelList rooms) (positionOf rooms a) (positionOf rooms b)
 m101-rooms-touch-iff-positions-touch rooms accepted a b ha hb =
-    subst₂ (λ (x y : ℕ). Touches rooms a b ↔ Touches (drawingOf labels) x y) (place a ha) (place b hb)
-    (touches-iff-partners-touch rooms (drawingOf labels) accepted (drawn .accepted) same a b ha hb)
+    subst₂ (λ (x y : ℕ). Touches rooms a b ↔ Touches (drawingOf (labelList rooms)) x y) (drawn .place a ha) (drawn .place b hb)
+    (touches-iff-partners-touch rooms (drawingOf (labelList rooms)) accepted (drawn .accepted) (drawn .same) a b ha hb)
   where
-    labels : List ℕ
-    labels = labelList rooms
-
-    of : BaxterOf rooms
-    of = rooms-give-baxter rooms accepted
-
-    some : 1 ≤ length labels
-    some = omega (arith, of .some, of .size)
-
-    drawn : DrawnAs labels (drawingOf labels)
-    drawn = baxter-gives-drawing labels (of .baxter) some (omega (arith, of .few, of .size))
-
-    same : Equivalent rooms (drawingOf labels)
-    same = same-labels→equivalent rooms (drawingOf labels) (accepted→floorplan rooms accepted) (accepted→floorplan (drawingOf labels) (drawn .accepted))
-        (sym (drawn .has-labels))
-
-    there : ℕ → ℕ
-    there = same .pair-rooms .to
-
-    -- a room's partner stands at its position
-    position : (c : ℕ) → c < length rooms → suc (there c) ≡ positionOf rooms c
-    position c h = sym (drawing-position labels (of .baxter) some (there c) (same .pair-rooms .to-has c h))
-        ∙ equivalent→same-position rooms (drawingOf labels) (accepted→floorplan rooms accepted) (accepted→floorplan (drawingOf labels) (drawn .accepted)) same c h
-
-    place : (c : ℕ) → c < length rooms → there c ≡ positionOf rooms c - 1
-    place c h = omega (arith, position c h)
+    drawn : ByPosition rooms
+    drawn = by-position rooms accepted
 
 -- in the grid drawing two positions touch exactly if their rooms share one of the lines 1 to n - 1
 pub m101-positions-touch-iff-share-inner-line : (labels : List ℕ) → EachOnce (labelAt labels) (length labels)

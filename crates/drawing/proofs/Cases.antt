@@ -1,4 +1,4 @@
--- The relation of two rooms by its cases: each is a pair of comparisons.
+-- The side on which a room stands, by its cases: each is a pair of comparisons.
 use mathlib.Core.Path.{_≡_, refl, sym, _∙_}
 use mathlib.Core.List.{List}
 use mathlib.Core.Logic.{ite, if-pos, if-neg}
@@ -7,36 +7,36 @@ use native.Mathlib.Decide.{decLt}
 use native.Mathlib.Omega.{arith}
 use lib.ListN.{getD}
 use Rattle.record.specs.Labels.{labelAt}
-use Rattle.drawing.specs.declared.Relation.the-variants.{Left, Right, Above, Below}
-use Rattle.drawing.specs.Relation.{relationOf}
+use Rattle.drawing.specs.declared.Side.the-variants.{Left, Right, Above, Below}
+use Rattle.drawing.specs.Side.{sideOf}
 
-relation-is : (f : ℕ → ℕ) (i j : ℕ)
-    → relationOf f i j ≡ ite (decLt i j) (ite (decLt (f i) (f j)) Left Below) (ite (decLt (f j) (f i)) Right Above)
-unfolding relationOf decLt
-relation-is f i j = refl
+side-is : (f : ℕ → ℕ) (i j : ℕ)
+    → sideOf f i j ≡ ite (decLt i j) (ite (decLt (f i) (f j)) Left Below) (ite (decLt (f j) (f i)) Right Above)
+unfolding sideOf decLt
+side-is f i j = refl
 
 -- the positions of the indices i and j
 module _ (labels : List ℕ) (p q i j : ℕ) (at-first : suc i ≡ p) (at-second : suc j ≡ q) where
-  pub relation-left : i < j → getD labels i 0 < getD labels j 0 → Left ≡ relationOf (labelAt labels) p q
-  relation-left h k =
+  pub side-left : i < j → getD labels i 0 < getD labels j 0 → Left ≡ sideOf (labelAt labels) p q
+  side-left h k =
       rw (← at-first, ← at-second)
-      (sym (relation-is (labelAt labels) (suc i) (suc j) ∙ if-pos (decLt (suc i) (suc j)) (omega arith) _ _
+      (sym (side-is (labelAt labels) (suc i) (suc j) ∙ if-pos (decLt (suc i) (suc j)) (omega arith) _ _
       ∙ if-pos (decLt (getD labels i 0) (getD labels j 0)) k Left Below))
 
-  pub relation-below : i < j → getD labels j 0 ≤ getD labels i 0 → Below ≡ relationOf (labelAt labels) p q
-  relation-below h k =
+  pub side-below : i < j → getD labels j 0 ≤ getD labels i 0 → Below ≡ sideOf (labelAt labels) p q
+  side-below h k =
       rw (← at-first, ← at-second)
-      (sym (relation-is (labelAt labels) (suc i) (suc j) ∙ if-pos (decLt (suc i) (suc j)) (omega arith) _ _
+      (sym (side-is (labelAt labels) (suc i) (suc j) ∙ if-pos (decLt (suc i) (suc j)) (omega arith) _ _
       ∙ if-neg (decLt (getD labels i 0) (getD labels j 0)) (λ l. omega arith) Left Below))
 
-  pub relation-right : j ≤ i → getD labels j 0 < getD labels i 0 → Right ≡ relationOf (labelAt labels) p q
-  relation-right h k =
+  pub side-right : j ≤ i → getD labels j 0 < getD labels i 0 → Right ≡ sideOf (labelAt labels) p q
+  side-right h k =
       rw (← at-first, ← at-second)
-      (sym (relation-is (labelAt labels) (suc i) (suc j) ∙ if-neg (decLt (suc i) (suc j)) (λ l. omega arith) _ _
+      (sym (side-is (labelAt labels) (suc i) (suc j) ∙ if-neg (decLt (suc i) (suc j)) (λ l. omega arith) _ _
       ∙ if-pos (decLt (getD labels j 0) (getD labels i 0)) k Right Above))
 
-  pub relation-above : j ≤ i → getD labels i 0 ≤ getD labels j 0 → Above ≡ relationOf (labelAt labels) p q
-  relation-above h k =
+  pub side-above : j ≤ i → getD labels i 0 ≤ getD labels j 0 → Above ≡ sideOf (labelAt labels) p q
+  side-above h k =
       rw (← at-first, ← at-second)
-      (sym (relation-is (labelAt labels) (suc i) (suc j) ∙ if-neg (decLt (suc i) (suc j)) (λ l. omega arith) _ _
+      (sym (side-is (labelAt labels) (suc i) (suc j) ∙ if-neg (decLt (suc i) (suc j)) (λ l. omega arith) _ _
       ∙ if-neg (decLt (getD labels j 0) (getD labels i 0)) (λ l. omega arith) Right Above))

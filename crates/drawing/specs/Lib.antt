@@ -1,6 +1,6 @@
 -- Definitions, in the sheet's words
 pub mod Drawing
-pub mod Relation
+pub mod Side
 -- What the code writes, and what it asks of two rooms
 pub mod Corners
 pub mod InnerLine

@@ -7,9 +7,9 @@ use Rattle.finite.specs.Decide.{holds}
 use Rattle.record.specs.Labels.{labelAt}
 use Rattle.record.specs.Causes.{dec-barred}
 use Rattle.drawing.specs.declared.Room.{Room}
-use Rattle.drawing.specs.declared.Relation.the-variants.{Left, Right, Above, Below}
+use Rattle.drawing.specs.declared.Side.the-variants.{Left, Right, Above, Below}
 use Rattle.drawing.specs.Drawing.{drawingOf}
-use Rattle.drawing.specs.Relation.{relationOf}
+use Rattle.drawing.specs.Side.{sideOf}
 
 abbrev worked : List ℕ
 worked = 4 ∷ 1 ∷ 3 ∷ 5 ∷ 2 ∷ []
@@ -22,9 +22,9 @@ worked-rooms : drawingOf worked ≡ room 0 0 3 1 ∷ room 0 1 2 5 ∷ room 2 1 3
 unfolding drawingOf
 worked-rooms = refl
 
-worked-relations : let of = relationOf (labelAt worked) in (of 1 4 ≡ Left) × (of 4 1 ≡ Right) × (of 1 2 ≡ Below) × (of 2 1 ≡ Above)
-unfolding relationOf
-worked-relations = (refl, refl, refl, refl)
+worked-sides : let of = sideOf (labelAt worked) in (of 1 4 ≡ Left) × (of 4 1 ≡ Right) × (of 1 2 ≡ Below) × (of 2 1 ≡ Above)
+unfolding sideOf
+worked-sides = (refl, refl, refl, refl)
 
 -- "2 4 1 3 and 3 4 1 2 have the same grid drawing, yet only the second is Baxter"
 one-drawing : drawingOf (2 ∷ 4 ∷ 1 ∷ 3 ∷ []) ≡ drawingOf (3 ∷ 4 ∷ 1 ∷ 2 ∷ [])

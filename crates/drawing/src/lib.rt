@@ -5,8 +5,8 @@ ghost use Prim.Native.Nat.{suc, _≤_, _<_};
 ghost use lib.ListN.{length};
 ghost use Rattle.finite.specs.Decide.{Tells};
 ghost use Rattle.record.specs.Labels.{labelAt};
-ghost use Rattle.drawing.specs.Relation.{relationOf};
-ghost use Rattle.drawing.specs.InnerLine.{InnerLineOf, ShareInnerLine};
+ghost use Rattle.drawing.specs.Side.{sideOf};
+ghost use Rattle.drawing.specs.InnerLine.{InnerLineOf, ShareInnerLine, FaceOnOneLine};
 ghost use Rattle.drawing.specs.Within.{Within};
 use record::Position;
 
@@ -22,11 +22,18 @@ pub struct Room {
 
 // "The relation (left, right, above, below) of the first to the second": the first room
 // is left of the second, right of it, above it or below it.
-pub enum Relation {
+pub enum Side {
     Left,
     Right,
     Above,
     Below,
+}
+
+// "The relation of two positions shall say whether it is direct, by one segment that holds
+// their facing edges, or only through a chain of more steps."
+pub struct Relation {
+    pub side: Side,
+    pub direct: bool,
 }
 
 // The index of a position: positions count from 1.
@@ -37,25 +44,25 @@ pub fn index(position: Position) -> usize
     position.0 as usize - 1
 }
 
-// How the room at the first position stands to the one at the second. The room at the earlier position is left of the other one
-// or below it, so the one at the later position is right of the other one or above it.
-pub fn relation_of(labels: &[u8], first: Position, second: Position) -> Relation
+// On which side of the room at the second position the one at the first stands. The room at the earlier position is left of the
+// other one or below it, so the one at the later position is right of the other one or above it.
+pub fn side_of(labels: &[u8], first: Position, second: Position) -> Side
     requires { ⌜ (1 ≤ first .0) × (first .0 ≤ length (now labels)) × (1 ≤ second .0) × (second .0 ≤ length (now labels)) ⌝
         ∗ ⌜ first .0 ≢ second .0 ⌝ }
-    ensures { λ r. ⌜ r ≡ relationOf (labelAt (now (labels .entry))) (first .0) (second .0) ⌝ }
+    ensures { λ r. ⌜ r ≡ sideOf (labelAt (now (labels .entry))) (first .0) (second .0) ⌝ }
 {
     let i = index(first);
     let j = index(second);
     if i < j {
         if labels[i] < labels[j] {
-            return Relation::Left;
+            return Side::Left;
         }
-        return Relation::Below;
+        return Side::Below;
     }
     if labels[j] < labels[i] {
-        return Relation::Right;
+        return Side::Right;
     }
-    Relation::Above
+    Side::Above
 }
 
 // Whether the stretch from `from` to `to` and the one from `low` to `high`, both within 0 to n, have an end in common on one of the lines
@@ -78,5 +85,23 @@ pub fn share_inner_line(n: usize, first: Room, second: Room) -> bool
 {
     let across = share_end(n, first.left, first.right, second.left, second.right);
     let up = share_end(n, first.bottom, first.top, second.bottom, second.top);
+    across | up
+}
+
+// Whether one of the stretches from `from` to `to` and from `low` to `high` ends where the other starts.
+fn meet(from: u16, to: u16, low: u16, high: u16) -> bool
+    ensures { λ r. ⌜ Tells r ((from ≡ high) ⊎ (to ≡ low)) ⌝ }
+{
+    (from == high) | (to == low)
+}
+
+// Whether one of two rooms of the drawing ends where the other starts, across or up. The edges that face each other there lie on one
+// line, which has one segment, so this tells whether their relation is direct. Which of the four lines it is need not be asked: two
+// rooms stand on one side of each other only.
+pub fn face_on_one_line(first: Room, second: Room) -> bool
+    ensures { λ r. ⌜ Tells r (FaceOnOneLine first second) ⌝ }
+{
+    let across = meet(first.left, first.right, second.left, second.right);
+    let up = meet(first.bottom, first.top, second.bottom, second.top);
     across | up
 }

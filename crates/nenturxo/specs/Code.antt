@@ -10,7 +10,8 @@ use Rattle.record.specs.declared.LabelsAnswer.the-variants.{Wrote, Refused}
 use Rattle.labeltext.specs.declared.TidyAnswer.{TidyAnswer}
 use Rattle.labeltext.specs.declared.TidyAnswer.the-variants as tidied
 use Rattle.drawing.specs.declared.Relation.{Relation}
-use Rattle.drawing.specs.declared.Relation.the-variants.{Left, Right, Above, Below}
+use Rattle.drawing.specs.declared.Side.{Side}
+use Rattle.drawing.specs.declared.Side.the-variants.{Left, Right, Above, Below}
 use Rattle.answers.specs.declared.RecordAnswer.{RecordAnswer}
 use Rattle.answers.specs.declared.RecordAnswer.the-variants as recordIn
 use Rattle.questions.specs.declared.QuestionAnswer.{QuestionAnswer}
@@ -47,17 +48,22 @@ abbrev pub recordCode : RecordAnswer → ℤ
 recordCode (recordIn.Read n) = pos n
 recordCode (recordIn.Refused refusal) = refusalCode refusal
 
--- the relations in the sheet's order: left 0, right 1, above 2, below 3
-abbrev pub relationNumber : Relation → ℕ
-relationNumber Left = 0
-relationNumber Right = 1
-relationNumber Above = 2
-relationNumber Below = 3
+-- the relations of 000, Definition 3.2, in the sheet's order of the sides: a room is "left of" another, or "directly left-of" it, and
+-- likewise for the other three. The number of each, where it is not direct and where it is
+abbrev pub relationNumber : Side → (direct : Bool) → ℕ
+relationNumber Left false = 0
+relationNumber Right false = 1
+relationNumber Above false = 2
+relationNumber Below false = 3
+relationNumber Left true = 8
+relationNumber Right true = 9
+relationNumber Above true = 10
+relationNumber Below true = 11
 
 -- 4 more where the two rooms touch
-abbrev pub relatedNumber : Relation → Bool → ℕ
-relatedNumber relation true = 4 + relationNumber relation
-relatedNumber relation false = relationNumber relation
+abbrev pub relatedNumber : Relation → (touch : Bool) → ℕ
+relatedNumber relation true = 4 + relationNumber (relation .side) (relation .direct)
+relatedNumber relation false = relationNumber (relation .side) (relation .direct)
 
 abbrev pub questionCode : QuestionAnswer → ℤ
 questionCode (question.Related relation touch) = pos (relatedNumber relation touch)

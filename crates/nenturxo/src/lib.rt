@@ -1,4 +1,5 @@
 // The C interface: the public calls as exported functions, and nothing else. A slice is a pointer and its length.
+ghost use mathlib.Core.Bool.{false};
 ghost use mathlib.Core.Path.{_≡_};
 ghost use Prim.Native.Nat.{_≤_};
 ghost use Rattle.record.specs.Answer.{LabelsIn};
@@ -12,6 +13,7 @@ ghost use Rattle.nenturxo.specs.Size.{AtMost97};
 use answers::RecordAnswer;
 use drawing::Relation;
 use drawing::Room;
+use drawing::Side;
 use entering::RoomsAnswer;
 use labeltext::TidyAnswer;
 use questions::QuestionAnswer;
@@ -99,21 +101,33 @@ pub extern "C" fn nenturxo_record_in(
     }
 }
 
+// A side's number.
+fn side_number(side: Side) -> u8
+    ensures { λ r. ⌜ (r ≡ relationNumber side false) × (r ≤ 3) ⌝ }
+{
+    match side {
+        Side::Left => 0,
+        Side::Right => 1,
+        Side::Above => 2,
+        Side::Below => 3,
+    }
+}
+
 // A relation's number.
 fn relation_number(relation: Relation) -> u8
-    ensures { λ r. ⌜ (r ≡ relationNumber relation) × (r ≤ 3) ⌝ }
+    ensures { λ r. ⌜ (r ≡ relationNumber (relation .side) (relation .direct)) × (r ≤ 11) ⌝ }
 {
-    match relation {
-        Relation::Left => 0,
-        Relation::Right => 1,
-        Relation::Above => 2,
-        Relation::Below => 3,
+    let side = relation.side;
+    let number = side_number(side);
+    if relation.direct {
+        return 8 + number;
     }
+    number
 }
 
 // The number of a relation and a touch.
 fn related_number(relation: Relation, touch: bool) -> u8
-    ensures { λ r. ⌜ (r ≡ relatedNumber relation touch) × (r ≤ 7) ⌝ }
+    ensures { λ r. ⌜ (r ≡ relatedNumber relation touch) × (r ≤ 15) ⌝ }
 {
     let number = relation_number(relation);
     if touch {
@@ -122,7 +136,7 @@ fn related_number(relation: Relation, touch: bool) -> u8
     number
 }
 
-// The question: the relation's number, 4 more where the two touch, or the refusal's number negated.
+// The question: the side's number, 4 more where the two touch, 8 more where their relation is direct, or the refusal's number negated.
 #[no_mangle]
 pub extern "C" fn nenturxo_question(record: &[u8], first: u8, second: u8) -> i32
     ensures { λ r. ⌜ r ≡ questionCode (questionAnswer (now («record» .entry)) first second) ⌝ }

@@ -1,4 +1,4 @@
-// The question: how two rooms of a record stand to each other, and whether they touch.
+// The question: how two rooms of a record stand to each other, whether directly, and whether they touch.
 ghost use mathlib.Core.Path.{_≡_};
 ghost use Prim.Native.Nat.{_-_, _≤_};
 ghost use Rattle.finite.specs.Decide.{Tells};
@@ -93,10 +93,12 @@ pub fn question(record: &[u8], first: u8, second: u8) -> QuestionAnswer
             if first == second {
                 return QuestionAnswer::Refused(Refusal::SamePosition);
             }
-            let relation = drawing::relation_of(&labels, Position(first), Position(second));
+            let side = drawing::side_of(&labels, Position(first), Position(second));
             let one = room_at(&left, &bottom, &right, &top, Position(first));
             let other = room_at(&left, &bottom, &right, &top, Position(second));
-            QuestionAnswer::Related(relation, drawing::share_inner_line(n, one, other))
+            let direct = drawing::face_on_one_line(one, other);
+            let touch = drawing::share_inner_line(n, one, other);
+            QuestionAnswer::Related(Relation { side, direct }, touch)
         }
     }
 }

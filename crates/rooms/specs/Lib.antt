@@ -3,6 +3,7 @@ pub mod Outline
 pub mod Causes
 pub mod Segment
 pub mod Orders
+pub mod Direct
 pub mod LabelList
 pub mod Corners
 pub mod Equivalent
@@ -18,7 +19,7 @@ pub mod RelationFacts
 pub mod LabelFacts
 pub mod GridFloorplan
 pub mod GridLabels
-pub mod GridStands
+pub mod Stands
 pub mod Demand3
 -- What they rest on: a room list as a plan
 pub mod Plan

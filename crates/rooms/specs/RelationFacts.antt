@@ -7,34 +7,28 @@ use mathlib.Core.List.{List}
 use Prim.Native.Nat.{ℕ, _<_}
 use lib.ListN.{length}
 use Rattle.drawing.specs.declared.Room.{Room}
-use Rattle.drawing.specs.declared.Relation.{Relation}
-use Rattle.drawing.specs.declared.Relation.the-variants.{Left, Right, Above, Below}
+use Rattle.drawing.specs.declared.Side.{Side}
+use Rattle.drawing.specs.declared.Side.the-variants.{Left, Right, Above, Below}
 use Rattle.rooms.specs.Causes.{AcceptedRooms}
 use Rattle.rooms.specs.Orders.{DirectlyLeft, DirectlyBelow, one, LeftOf, RightOf, BelowOf, AboveOf}
+use Rattle.rooms.specs.Direct.{Stands}
 use Rattle.rooms.specs.Plan.{Floorplan, swap-floorplan, left-step→none-between, none-between→left-step}
 use Rattle.rooms.specs.PlanOf.{planOf, accepted→floorplan}
 use Rattle.rooms.specs.TwoOrders.{Related, along, along-back, across, across-back, TwoOrders}
 use Rattle.rooms.specs.RoomOrders.{position-orders}
 use Rattle.rooms.specs.Steps.{directly-left→step, directly-below→step, step→directly-left, step→directly-below, left-of→left, left→left-of, below-of→below, below→below-of, right-of→left-of, left-of→right-of, above-of→below-of, below-of→above-of}
 
--- room a stands to room b in the relation
-abbrev pub Stands : List Room → Relation → (a b : ℕ) → Type 0
-Stands rooms Left a b = LeftOf rooms a b
-Stands rooms Right a b = RightOf rooms a b
-Stands rooms Above a b = AboveOf rooms a b
-Stands rooms Below a b = BelowOf rooms a b
-
-pub record OnlyRelation (rooms : List Room) (a b : ℕ) : Type 0 where
-  pub relation : Relation
-  pub stands : Stands rooms relation a b
-  pub only : (other : Relation) → Stands rooms other a b → other ≡ relation
+pub record OnlySide (rooms : List Room) (a b : ℕ) : Type 0 where
+  pub side : Side
+  pub stands : Stands rooms side a b
+  pub only : (other : Side) → Stands rooms other a b → other ≡ side
 
 module _ (rooms : List Room) (accepted : AcceptedRooms rooms) where
   k : Floorplan (planOf rooms)
   k = accepted→floorplan rooms accepted
 
   -- "exactly one of left, right, above, below holds"
-  pub exactly-one-relation : (a b : ℕ) → a < length rooms → b < length rooms → a ≢ b → OnlyRelation rooms a b
+  pub exactly-one-relation : (a b : ℕ) → a < length rooms → b < length rooms → a ≢ b → OnlySide rooms a b
   exactly-one-relation a b ha hb ne = go (orders .related a b ha hb ne)
     where
       orders : TwoOrders (length rooms) (LeftOf rooms) (BelowOf rooms)
@@ -46,31 +40,31 @@ module _ (rooms : List Room) (accepted : AcceptedRooms rooms) where
       above : AboveOf rooms a b → BelowOf rooms b a
       above = above-of→below-of rooms
 
-      go : Related (LeftOf rooms) (BelowOf rooms) a b → OnlyRelation rooms a b
-      go (along r) = record { relation = Left; stands = r; only = only }
+      go : Related (LeftOf rooms) (BelowOf rooms) a b → OnlySide rooms a b
+      go (along r) = record { side = Left; stands = r; only = only }
         where
-          only : (other : Relation) → Stands rooms other a b → other ≡ Left
+          only : (other : Side) → Stands rooms other a b → other ≡ Left
           only Left s = refl
           only Right s = absurd (orders .along-asym r (right s))
           only Above s = absurd (orders .not-both-ways r (above s))
           only Below s = absurd (orders .not-both r s)
-      go (along-back r) = record { relation = Right; stands = left-of→right-of rooms r; only = only }
+      go (along-back r) = record { side = Right; stands = left-of→right-of rooms r; only = only }
         where
-          only : (other : Relation) → Stands rooms other a b → other ≡ Right
+          only : (other : Side) → Stands rooms other a b → other ≡ Right
           only Left s = absurd (orders .along-asym r s)
           only Right s = refl
           only Above s = absurd (orders .not-both r (above s))
           only Below s = absurd (orders .not-both-ways r s)
-      go (across r) = record { relation = Below; stands = r; only = only }
+      go (across r) = record { side = Below; stands = r; only = only }
         where
-          only : (other : Relation) → Stands rooms other a b → other ≡ Below
+          only : (other : Side) → Stands rooms other a b → other ≡ Below
           only Left s = absurd (orders .not-both s r)
           only Right s = absurd (orders .not-both-ways (right s) r)
           only Above s = absurd (orders .across-asym r (above s))
           only Below s = refl
-      go (across-back r) = record { relation = Above; stands = below-of→above-of rooms r; only = only }
+      go (across-back r) = record { side = Above; stands = below-of→above-of rooms r; only = only }
         where
-          only : (other : Relation) → Stands rooms other a b → other ≡ Above
+          only : (other : Side) → Stands rooms other a b → other ≡ Above
           only Left s = absurd (orders .not-both-ways s r)
           only Right s = absurd (orders .not-both (right s) r)
           only Above s = refl

@@ -67,7 +67,7 @@ equivalent-sym {rooms} {others} e = record {
     roomBack = e .pair-rooms .from
 
 module _ (rooms others : List Room) (e : Equivalent rooms others) where
-  equivalent→keeps-one-segment : (of-a of-b : Side) (a b : ℕ) → OneSegment rooms of-a of-b a b
+  pub equivalent→keeps-one-segment : (of-a of-b : Side) (a b : ℕ) → OneSegment rooms of-a of-b a b
       → OneSegment others of-a of-b (e .pair-rooms .to a) (e .pair-rooms .to b)
   equivalent→keeps-one-segment of-a of-b a b d = record {
     a< = e .pair-rooms .to-has a (d .a<);

@@ -1,6 +1,6 @@
 //! Rooms and relations in the library's own types.
 
-use reference::{Relation, Room};
+use reference::{Relation, Room, Side};
 
 /// A room as the library takes it.
 #[must_use]
@@ -22,10 +22,12 @@ pub fn rooms(rooms: &[Room]) -> Vec<nenturxo::Room> {
 /// A relation as the library names it.
 #[must_use]
 pub fn relation(relation: Relation) -> nenturxo::Relation {
-    match relation {
-        Relation::Left => nenturxo::Relation::Left,
-        Relation::Right => nenturxo::Relation::Right,
-        Relation::Above => nenturxo::Relation::Above,
-        Relation::Below => nenturxo::Relation::Below,
-    }
+    let side = match relation.side {
+        Side::Left => nenturxo::Side::Left,
+        Side::Right => nenturxo::Side::Right,
+        Side::Above => nenturxo::Side::Above,
+        Side::Below => nenturxo::Side::Below,
+    };
+    let direct = relation.direct;
+    nenturxo::Relation { side, direct }
 }

@@ -6,7 +6,7 @@ use crate::lent::{Input, Surroundings, SURROUNDINGS};
 use crate::of_library;
 use crate::outcome::number;
 use crate::tally::Tally;
-use reference::{Contacts, Refusal, Relation, Room};
+use reference::{Chains, Contacts, Refusal, Relation, Room};
 
 /// What a question is answered with.
 pub type Answer = Result<(Relation, bool), Refusal>;
@@ -17,11 +17,17 @@ impl Tally {
     ///
     /// # Panics
     ///
-    /// If they differ, or one of them writes where the record stands.
+    /// If they differ, or one of them writes where the record stands, or if
+    /// two rooms would be in a direct relation and not touch.
     pub fn question(&mut self, given: &AskedRecord, first: u8, second: u8) -> Answer {
         let answer = given.and_then(|questions| questions.answer(first, second));
         for around in SURROUNDINGS {
             compare(given, first, second, answer, around);
+        }
+        // Two rooms in a direct relation always touch.
+        if let Ok((relation, touch)) = answer {
+            let asked = (first, second);
+            assert!(touch || !relation.direct, "{asked:?} of record {given}");
         }
         self.count(&answer);
         answer
@@ -45,6 +51,8 @@ pub struct AskedPlan {
     pub rooms: Vec<Room>,
     /// Which of them touch, by their own segments.
     pub contacts: Contacts,
+    /// The chains of direct steps between them, by their own segments.
+    pub chains: Chains,
     /// The record of the plan.
     pub record: AskedRecord,
     /// The position of each room, in list order.
@@ -56,30 +64,44 @@ impl AskedPlan {
     #[must_use]
     pub fn new(plan: &Floorplan) -> Self {
         let (rooms, numbering) = (plan.rooms(), plan.numbering());
+        let contacts = Contacts::of(&rooms);
         Self {
-            contacts: Contacts::of(&rooms),
+            chains: contacts.chains(),
+            contacts,
             rooms,
             record: AskedRecord::new(numbering.record),
             positions: numbering.positions,
         }
     }
+
+    /// How two different rooms stand to each other and whether they touch, by
+    /// their own segments. Each is named by its place in the list.
+    #[must_use]
+    pub fn standing(&self, first: usize, second: usize) -> (Relation, bool) {
+        let relation = self.chains.relation(first, second);
+        (relation, self.contacts.touch(first, second))
+    }
 }
 
 impl Tally {
     /// Asks for two different rooms of a plan, each by its place in the list:
-    /// for the plan's record and the rooms' positions. Says whether they
-    /// touch.
+    /// for the plan's record and the rooms' positions. Gives the answer.
     ///
     /// # Panics
     ///
-    /// If the plan's own segments say otherwise, or as [`Self::question`].
-    pub fn question_of_rooms(&mut self, plan: &AskedPlan, first: usize, second: usize) -> bool {
+    /// If the plan's own segments and the chains along them say otherwise, or
+    /// as [`Self::question`].
+    pub fn question_of_rooms(
+        &mut self,
+        plan: &AskedPlan,
+        first: usize,
+        second: usize,
+    ) -> (Relation, bool) {
         let [one, other] = [first, second].map(|place| plan.positions[place]);
-        let touch = plan.contacts.touch(first, second);
+        let standing = plan.standing(first, second);
         let answer = self.question(&plan.record, one, other);
-        let answer = answer.map(|(_, touch)| touch);
-        assert_eq!(answer, Ok(touch), "{one} and {other} of {:?}", plan.rooms);
-        touch
+        assert_eq!(answer, Ok(standing), "{one} to {other} of {:?}", plan.rooms);
+        standing
     }
 }
 

@@ -21,7 +21,7 @@ mod room;
 mod sys;
 
 pub use refusal::Refusal;
-pub use relation::Relation;
+pub use relation::{Relation, Side};
 pub use room::Room;
 
 /// The length of the longest record, that of 255 rooms.
@@ -119,22 +119,41 @@ pub fn record_in(record: &[u8], labels: &mut [u8], corners: Corners<'_>) -> Resu
 }
 
 /// The question: how the room at position `first` of a record stands to the
-/// one at position `second`, and whether the two touch. Two rooms touch when
-/// one segment that is not an outline side supports both, from the same side
-/// or from opposite sides. The answer is the same for every equivalent
+/// one at position `second`, and whether the two touch.
+///
+/// The relation is direct if one segment holds the facing edges of the two
+/// rooms: the right edge of the one on the left and the left edge of the other
+/// one, or the top edge of the lower one and the bottom edge of the other one.
+/// Otherwise it goes only through others, by a chain of two or more direct
+/// steps.
+///
+/// Two rooms touch when one segment that is not an outline side supports both,
+/// from the same side or from opposite sides. Two rooms in a direct relation
+/// always touch.
+///
+/// All of the answer, the word direct too, is the same for every equivalent
 /// floorplan.
 ///
 /// ```
-/// use nenturxo::{question, Refusal, Relation};
+/// use nenturxo::{question, Refusal, Relation, Side};
+///
+/// let directly = |side| Relation { side, direct: true };
+/// let through_others = |side| Relation { side, direct: false };
 ///
 /// let record = [0x05, 0x31, 0x70];
-/// assert_eq!(question(&record, 1, 4)?, (Relation::Left, true));
-/// assert_eq!(question(&record, 5, 1)?, (Relation::Above, false));
+/// assert_eq!(question(&record, 1, 4)?, (directly(Side::Left), true));
+/// assert_eq!(question(&record, 5, 1)?, (through_others(Side::Above), false));
 /// assert_eq!(question(&record, 1, 6), Err(Refusal::POSITION_OUTSIDE));
 ///
-/// // Two rows of two rooms: the segment between the rows supports all four.
+/// // Two rows of two rooms: the segment between the rows holds the top edges
+/// // of the lower two and the bottom edges of the upper two.
 /// let rows = [0x04, 0x47, 0x00];
-/// assert_eq!(question(&rows, 1, 4)?, (Relation::Below, true));
+/// assert_eq!(question(&rows, 1, 4)?, (directly(Side::Below), true));
+///
+/// // Three rooms under a bar: the first and the third touch, since both hang
+/// // on the bar's lower edge, and yet the second one is between them.
+/// let under_a_bar = [0x04, 0x4A, 0x80];
+/// assert_eq!(question(&under_a_bar, 1, 3)?, (through_others(Side::Left), true));
 /// # Ok::<(), nenturxo::Refusal>(())
 /// ```
 ///

@@ -3,6 +3,7 @@
 //!
 //! No call uses any of it.
 
+pub mod asked;
 mod random;
 mod small;
 pub mod text;

@@ -2,7 +2,7 @@
 //!
 //! This is the separately written version that the proved library is held to.
 //! It is meant to be believed by reading: each function is one sentence of
-//! the sheet, or of the requests M-100 and M-101, and says which. What is fast
+//! the sheet, or of the requests M-100 to M-102, and says which. What is fast
 //! lives apart, in [`fast`], and is itself held to the definitions. What tests
 //! are made of is in [`cases`].
 //!
@@ -29,6 +29,7 @@ mod planlist;
 mod question;
 mod record;
 mod refusal;
+mod relation;
 mod rooms;
 mod runs;
 mod text;
@@ -41,11 +42,12 @@ pub use edge::{Edge, Line};
 pub use labels::labels_in;
 pub use plan::{plan_of, record_in, Corners, Plan};
 pub use planlist::planlist;
-pub use question::{question, Questions, Relation};
+pub use question::{question, Questions};
 pub use record::{record_of, triples_in};
 pub use refusal::Refusal;
+pub use relation::{Relation, Side};
 pub use rooms::{
-    equivalent, numbering_of, rooms_in, segments, Contacts, Numbered, Numbering, Segment,
+    equivalent, numbering_of, rooms_in, segments, Chains, Contacts, Numbered, Numbering, Segment,
 };
 pub use runs::{labels_of, Runs, TRIPLES};
 pub use text::{numbers_in, tidy_form};

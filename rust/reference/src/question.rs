@@ -1,20 +1,7 @@
 //! The question of the sheet: how two positions of a record stand to each
 //! other.
 
-use crate::{plan_of, Contacts, Plan, Refusal};
-
-/// How a room stands to another one.
-#[derive(Clone, Copy, Debug, PartialEq, Eq, Hash)]
-pub enum Relation {
-    /// It is left of the other one.
-    Left,
-    /// It is right of the other one.
-    Right,
-    /// It is above the other one.
-    Above,
-    /// It is below the other one.
-    Below,
-}
+use crate::{plan_of, Contacts, Plan, Refusal, Relation, Side};
 
 /// The relation of the first position to the second in a record, and whether
 /// the two touch.
@@ -30,8 +17,10 @@ pub fn question(record: &[u8], first: u8, second: u8) -> Result<(Relation, bool)
 #[derive(Clone, Debug)]
 pub struct Questions {
     plan: Plan,
-    /// Which rooms of the drawing touch. By M-101 the answer is the same for
-    /// every equivalent floorplan, so the drawing serves as well as any.
+    /// Which rooms of the drawing touch, and in which direct relations they
+    /// are. By M-101 and M-102 that goes by the edges that one segment holds,
+    /// and so is the same for every equivalent floorplan: the drawing serves
+    /// as well as any.
     contacts: Contacts,
 }
 
@@ -70,20 +59,29 @@ impl Questions {
         Ok((self.relation(first, second), self.touch(first, second)))
     }
 
-    /// The relation of one position to another one: for positions i < j, room
-    /// i is left of j if its label is smaller, else below j.
+    /// The relation of one position to another one, which is direct if one
+    /// segment holds the facing edges of their rooms.
     fn relation(&self, first: u8, second: u8) -> Relation {
+        let side = self.side(first, second);
+        let direct = self.contacts.directly(side, place(first), place(second));
+        Relation { side, direct }
+    }
+
+    /// The side of the second position on which the first one is: for
+    /// positions i < j, room i is left of j if its label is smaller, else
+    /// below j.
+    fn side(&self, first: u8, second: u8) -> Side {
         let label = |position: u8| self.plan.labels[place(position)];
         if first < second {
             if label(first) < label(second) {
-                Relation::Left
+                Side::Left
             } else {
-                Relation::Below
+                Side::Below
             }
         } else if label(second) < label(first) {
-            Relation::Right
+            Side::Right
         } else {
-            Relation::Above
+            Side::Above
         }
     }
 
@@ -100,23 +98,22 @@ fn place(position: u8) -> usize {
 
 #[cfg(test)]
 mod tests {
-    use super::{question, Relation};
-    use crate::cases::worked;
+    use super::question;
+    use crate::cases::asked;
     use crate::{plan_of, Refusal};
 
     #[test]
     fn every_pair_of_the_worked_plans() {
-        for (labels, record, pairs) in worked::ASKED {
+        for plan in asked::PLANS {
+            let (labels, record) = (plan.labels, plan.record);
             assert_eq!(plan_of(record).unwrap().labels, labels);
-            assert_eq!(pairs.len(), labels.len() * (labels.len() - 1) / 2);
-            for &((first, second), (relation, touch)) in pairs {
-                let other_way = match relation {
-                    Relation::Left => Relation::Right,
-                    _ => Relation::Above,
-                };
-                let asked = |first, second| question(record, first, second);
-                assert_eq!(asked(first, second), Ok((relation, touch)), "{labels:?}");
-                assert_eq!(asked(second, first), Ok((other_way, touch)), "{labels:?}");
+            assert_eq!(plan.pairs.len(), labels.len() * (labels.len() - 1) / 2);
+            for &([first, second], standing) in plan.pairs {
+                let (relation, touch) = standing.answer();
+                let there = question(record, first, second);
+                let back = question(record, second, first);
+                assert_eq!(there, Ok((relation, touch)), "{labels:?}");
+                assert_eq!(back, Ok((relation.reversed(), touch)), "{labels:?}");
             }
         }
     }

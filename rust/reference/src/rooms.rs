@@ -1,12 +1,14 @@
 //! The call "Rooms in" of the sheet.
 
 mod causes;
+mod chains;
 mod equivalent;
 mod orders;
 mod ranks;
 mod segments;
 mod touch;
 
+pub use chains::Chains;
 pub use equivalent::equivalent;
 pub use segments::{segments, Segment};
 pub use touch::Contacts;

@@ -1,10 +1,12 @@
 //! The rooms of every small drawing, judged by "Rooms, segments and the two
 //! orders" of the sheet: their labels, their positions and how they stand to
 //! each other must be those that they were drawn from. And judged by the
-//! request M-101: whether they touch must be what a question is answered with.
+//! requests M-101 and M-102: whether they touch, and whether they stand so
+//! directly or through a chain of more steps, must be what a question is
+//! answered with.
 
 use reference::cases::{baxter_lists_up_to, every_code};
-use reference::{drawing, labels_of, Plan, Questions, Relation, Room};
+use reference::{drawing, labels_of, Contacts, Plan, Questions, Relation, Room, Side};
 
 /// One way through a drawing: the relations left and right, or with the two
 /// directions traded below and above.
@@ -58,73 +60,106 @@ impl Way {
         })
     }
 
-    /// Whether a chain of direct steps leads from one room to another.
-    fn chains(self, rooms: &[Room]) -> Vec<Vec<bool>> {
-        let mut chains: Vec<Vec<bool>> = rooms
-            .iter()
-            .map(|&a| rooms.iter().map(|&b| self.directly(rooms, a, b)).collect())
-            .collect();
-        for over in 0..rooms.len() {
-            for from in 0..rooms.len() {
-                for to in 0..rooms.len() {
-                    chains[from][to] |= chains[from][over] && chains[over][to];
-                }
+    /// Whether a direct step leads from one room to another.
+    fn steps(self, rooms: &[Room]) -> Vec<Vec<bool>> {
+        let row = |&a: &Room| rooms.iter().map(|&b| self.directly(rooms, a, b)).collect();
+        rooms.iter().map(row).collect()
+    }
+
+    /// The least number of direct steps in a chain from one room to another, 0
+    /// if there is none: with each step come the rooms that were not reached
+    /// before and that a step leads to from one reached last.
+    fn chains(self, rooms: &[Room]) -> Vec<Vec<u8>> {
+        let (n, directly) = (rooms.len(), self.steps(rooms));
+        let mut chains = vec![vec![0; n]; n];
+        for (from, least) in chains.iter_mut().enumerate() {
+            let mut reached = vec![from];
+            for steps in (1..).take(n) {
+                let leads = |to: usize| reached.iter().any(|&over| directly[over][to]);
+                let next = (0..n).filter(|&to| least[to] == 0 && leads(to));
+                let next: Vec<usize> = next.collect();
+                next.iter().for_each(|&to| least[to] = steps);
+                reached = next;
             }
         }
         chains
     }
 }
 
-/// Holds a plan to the definitions.
-fn check(questions: &Questions) {
+/// Holds a plan to the definitions, and gives the greatest of all least numbers
+/// of steps.
+fn check(questions: &Questions) -> u8 {
     let plan = questions.plan();
     let n = plan.rooms.len();
     let left = Way::Across.chains(&plan.rooms);
     let below = Way::Up.chains(&plan.rooms);
+    let chains = Contacts::of(&plan.rooms).chains();
+    let mut most = 0;
     for a in 0..n {
         let others = |holds: &dyn Fn(usize) -> bool| 1 + (0..n).filter(|&b| holds(b)).count();
         // 1 plus the number of rooms left of it or above it
-        let label = others(&|b| left[b][a] || below[a][b]);
+        let label = others(&|b| left[b][a] + below[a][b] > 0);
         assert_eq!(label, usize::from(plan.labels[a]), "{plan:?}");
         // 1 plus the number of rooms left of it or below it
-        let position = others(&|b| left[b][a] || below[b][a]);
+        let position = others(&|b| left[b][a] + below[b][a] > 0);
         assert_eq!(position, a + 1, "{plan:?}");
 
         for b in (0..n).filter(|&b| b != a) {
-            let mut relations = Vec::new();
-            for (holds, relation) in [
-                (left[a][b], Relation::Left),
-                (left[b][a], Relation::Right),
-                (below[b][a], Relation::Above),
-                (below[a][b], Relation::Below),
-            ] {
-                if holds {
-                    relations.push(relation);
-                }
+            let steps = [left[a][b], left[b][a], below[b][a], below[a][b]];
+            check_pair(questions, [a, b], steps);
+            for (side, steps) in Side::ALL.into_iter().zip(steps) {
+                let leads = (steps > 0).then_some(steps);
+                assert_eq!(chains.steps(side, a, b), leads, "{plan:?}, {a} and {b}");
+                most = most.max(steps);
             }
-            let position = |at: usize| u8::try_from(at + 1).unwrap();
-            let (relation, touch) = questions.answer(position(a), position(b)).unwrap();
-            assert_eq!(relations, [relation], "{plan:?}, {a} and {b}");
-
-            let [room_a, room_b] = [a, b].map(|at| plan.rooms[at]);
-            let expected = [Way::Across, Way::Up]
-                .iter()
-                .any(|way| way.supports_both(&plan.rooms, room_a, room_b));
-            assert_eq!(touch, expected, "{plan:?}, {a} and {b}");
         }
     }
+    most
+}
+
+/// Holds the answer for two places to the definitions, given the least numbers
+/// of steps by which the first is left, right, above and below, 0 for none.
+fn check_pair(questions: &Questions, [a, b]: [usize; 2], steps: [u8; 4]) {
+    let plan = questions.plan();
+    let relations = Side::ALL.into_iter().zip(steps);
+    let relations = relations.filter(|&(_, steps)| steps > 0);
+    let relations = relations.map(|(side, steps)| Relation {
+        side,
+        direct: steps == 1,
+    });
+    let position = |at: usize| u8::try_from(at + 1).unwrap();
+    let (relation, touch) = questions.answer(position(a), position(b)).unwrap();
+    let relations: Vec<Relation> = relations.collect();
+    assert_eq!(relations, [relation], "{plan:?}, {a} and {b}");
+
+    let [room_a, room_b] = [a, b].map(|at| plan.rooms[at]);
+    let expected = [Way::Across, Way::Up]
+        .iter()
+        .any(|way| way.supports_both(&plan.rooms, room_a, room_b));
+    assert_eq!(touch, expected, "{plan:?}, {a} and {b}");
+    // Two rooms in a direct relation always touch.
+    assert!(touch || !relation.direct, "{plan:?}, {a} and {b}");
 }
 
 #[test]
 fn every_plan_of_up_to_7_rooms() {
     let mut plans = 0;
+    // The number of plans by the greatest number of steps.
+    let mut of_steps = [0; 7];
     for labels in (1..=7)
         .flat_map(every_code)
         .flat_map(|code| labels_of(&code))
     {
         let rooms = drawing(&labels);
-        check(&Questions::about(Plan { labels, rooms }));
+        let most = check(&Questions::about(Plan { labels, rooms }));
+        of_steps[usize::from(most)] += 1;
         plans += 1;
     }
     assert_eq!(plans, baxter_lists_up_to(7));
+    // One room alone, and 6 steps in the row and the pile of 7.
+    assert_eq!((of_steps[0], of_steps[6]), (1, 2), "{of_steps:?}");
+    assert!(
+        of_steps[1..6].iter().all(|&count| count > 2),
+        "{of_steps:?}"
+    );
 }

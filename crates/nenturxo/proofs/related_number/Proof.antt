@@ -14,10 +14,14 @@ add-result : tie.Need-add-result
 add-result c = search needs
 
 returns : tie.Need-returns
-returns c = let a = c .before .before .args in (ap (λ (n : ℕ). 4 + n) (c .before .relation-number .ensures .0) ∙ ap (relatedNumber (a .relation)) (sym (c .if1 .taken)), omega (arith, c .before .relation-number .ensures .1))
+returns c =
+    let told = c .before .relation-number .ensures in
+    (ap (λ (n : ℕ). 4 + n) (told .0) ∙ ap (relatedNumber (c .before .before .args .relation)) (sym (c .if1 .taken)), omega (arith, told .1))
 
 returns-2 : tie.Need-returns-2
-returns-2 c = search needs
+returns-2 c =
+    let told = c .before .relation-number .ensures in
+    (told .0 ∙ ap (relatedNumber (c .before .before .args .relation)) (sym (c .if1 .left)), omega (arith, told .1))
 
 pub related-number-spec : {M : Type 1} → statement M
 related-number-spec = tie.close (tie.spec relation-number-requires add-result returns returns-2)

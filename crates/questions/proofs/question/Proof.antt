@@ -12,13 +12,13 @@ use Rattle.reading.specs.declared.Reading.{Reading}
 use Rattle.record.specs.Labels.{labelAt}
 use Rattle.record.specs.Read.{kindOf, labelsOf}
 use Rattle.drawing.specs.Drawing.{roomAt}
-use Rattle.drawing.specs.InnerLine.{ShareInnerLine}
+use Rattle.drawing.specs.InnerLine.{ShareInnerLine, FaceOnOneLine}
 use Rattle.drawing.specs.Within.{Within, drawn-within}
 use Rattle.drawing.specs.declared.Room.{Room}
 use Rattle.questions.specs.Answer.{Outside}
 use Rattle.questions.specs.declared.QuestionAnswer.the-variants.{Refused}
 use Rattle.questions.proofs.Asked.{within, outside-answer, same-answer, related-answer}
-use Rattle.questions.proofs.Given.{relation-is, room-is}
+use Rattle.questions.proofs.Given.{side-is, room-is}
 use borrow.Author.Needs.{needs}
 use Rattle.questions.proofs.question.Statement.{statement}
 use Rattle.questions.proofs.question.Tie as tie
@@ -27,12 +27,13 @@ use Rattle.questions.proofs.question.Lts as lts
 use Rattle.questions.proofs.earlier.Reads as earlier-reads
 use Rattle.questions.proofs.outside.Reads as outside-reads
 use Rattle.questions.proofs.room_at.Reads as room-at-reads
-use Rattle.drawing.proofs.relation_of.Reads as relation-of-reads
+use Rattle.drawing.proofs.side_of.Reads as side-of-reads
+use Rattle.drawing.proofs.face_on_one_line.Reads as face-reads
 use Rattle.drawing.proofs.share_inner_line.Reads as share-reads
 use Rattle.reading.proofs.read.Reads as read-reads
 
 -- what was read
-given : (k : lts.After-known-told2 (earlier-reads.Asked, earlier-reads.Learnt, read-reads.Asked, read-reads.Learnt, outside-reads.Asked, outside-reads.Learnt, relation-of-reads.Asked, relation-of-reads.Learnt, room-at-reads.Asked, room-at-reads.Learnt, share-reads.Asked, share-reads.Learnt) reads.Pre reads.Post)
+given : (k : lts.After-known-told2 (earlier-reads.Asked, earlier-reads.Learnt, read-reads.Asked, read-reads.Learnt, outside-reads.Asked, outside-reads.Learnt, side-of-reads.Asked, side-of-reads.Learnt, room-at-reads.Asked, room-at-reads.Learnt, face-reads.Asked, face-reads.Learnt, share-reads.Asked, share-reads.Learnt) reads.Pre reads.Post)
     → let last = k .before .before .before .before .before .before .read .last .1 .1 .1 in
     Given (k .before .before .before .before .before .before .before .before .before .before .before .before .before .before .args .«record» .now) (k .before .n .given .0 .0) (k .before .before .before .before .before .before .before .before .before .before .before .before .earlier .result) 255 (last .0) (last .1 .0) (replicate 255 0) (replicate 255 0) (replicate 255 0) (last .1 .1 .0) (last .1 .1 .1 .0) (last .1 .1 .1 .1 .0)
 given k =
@@ -42,7 +43,7 @@ given k =
     (k .before .n .given .1) (read .ensures .1)
 
 -- both positions are inside
-inside : (e : lts.Else2 (earlier-reads.Asked, earlier-reads.Learnt, read-reads.Asked, read-reads.Learnt, outside-reads.Asked, outside-reads.Learnt, relation-of-reads.Asked, relation-of-reads.Learnt, room-at-reads.Asked, room-at-reads.Learnt, share-reads.Asked, share-reads.Learnt) reads.Pre reads.Post) → let k = e .before .before .before .before in let a = k .before .before .before .before .before .before .before .before .before .before .before .before .before .before .args in let n = k .before .n .given .0 .0 in ¬ (Outside (a .first) n ⊎ Outside (a .second) n)
+inside : (e : lts.Else2 (earlier-reads.Asked, earlier-reads.Learnt, read-reads.Asked, read-reads.Learnt, outside-reads.Asked, outside-reads.Learnt, side-of-reads.Asked, side-of-reads.Learnt, room-at-reads.Asked, room-at-reads.Learnt, face-reads.Asked, face-reads.Learnt, share-reads.Asked, share-reads.Learnt) reads.Pre reads.Post) → let k = e .before .before .before .before in let a = k .before .before .before .before .before .before .before .before .before .before .before .before .before .before .args in let n = k .before .n .given .0 .0 in ¬ (Outside (a .first) n ⊎ Outside (a .second) n)
 inside e h =
     let k = e .before .before .before .before in
     let a = k .before .before .before .before .before .before .before .before .before .before .before .before .before .before .args in
@@ -52,7 +53,7 @@ inside e h =
       | inr o ↦ subst (λ (t : Bool). Tells t (Outside (a .second) n)) (e .if2 .left) (e .before .outside2 .ensures) o
     ]
 
-both : (e : lts.Else2 (earlier-reads.Asked, earlier-reads.Learnt, read-reads.Asked, read-reads.Learnt, outside-reads.Asked, outside-reads.Learnt, relation-of-reads.Asked, relation-of-reads.Learnt, room-at-reads.Asked, room-at-reads.Learnt, share-reads.Asked, share-reads.Learnt) reads.Pre reads.Post) → let k = e .before .before .before .before in let a = k .before .before .before .before .before .before .before .before .before .before .before .before .before .before .args in let n = k .before .n .given .0 .0 in (1 ≤ a .first) × (a .first ≤ n) × (1 ≤ a .second) × (a .second ≤ n)
+both : (e : lts.Else2 (earlier-reads.Asked, earlier-reads.Learnt, read-reads.Asked, read-reads.Learnt, outside-reads.Asked, outside-reads.Learnt, side-of-reads.Asked, side-of-reads.Learnt, room-at-reads.Asked, room-at-reads.Learnt, face-reads.Asked, face-reads.Learnt, share-reads.Asked, share-reads.Learnt) reads.Pre reads.Post) → let k = e .before .before .before .before in let a = k .before .before .before .before .before .before .before .before .before .before .before .before .before .before .args in let n = k .before .n .given .0 .0 in (1 ≤ a .first) × (a .first ≤ n) × (1 ≤ a .second) × (a .second ≤ n)
 both e =
     let k = e .before .before .before .before in
     let a = k .before .before .before .before .before .before .before .before .before .before .before .before .before .before .args in
@@ -109,11 +110,11 @@ returns-3 c =
     let g = given k in
     same-answer (g .kind) (g .readable) (a .first) (a .second) (inside (c .before)) (c .if3 .taken)
 
-slice-aggregate-relation-of : tie.Need-slice-aggregate-relation-of
-slice-aggregate-relation-of c = search needs
+slice-aggregate-side-of : tie.Need-slice-aggregate-side-of
+slice-aggregate-side-of c = search needs
 
-relation-of-requires : tie.Need-relation-of-requires
-relation-of-requires c κs =
+side-of-requires : tie.Need-side-of-requires
+side-of-requires c κs =
     let e = c .before .before in
     let k = e .before .before .before .before in
     let at = both e in
@@ -128,7 +129,7 @@ room-at-requires-2 : tie.Need-room-at-requires-2
 room-at-requires-2 c κs = both (c .before .before .before .before .before .before .before .before .before .before .before .before) .2
 
 -- the two rooms are those of the drawing
-drawn : (r : lts.After-room-at2 (earlier-reads.Asked, earlier-reads.Learnt, read-reads.Asked, read-reads.Learnt, outside-reads.Asked, outside-reads.Learnt, relation-of-reads.Asked, relation-of-reads.Learnt, room-at-reads.Asked, room-at-reads.Learnt, share-reads.Asked, share-reads.Learnt) reads.Pre reads.Post)
+drawn : (r : lts.After-room-at2 (earlier-reads.Asked, earlier-reads.Learnt, read-reads.Asked, read-reads.Learnt, outside-reads.Asked, outside-reads.Learnt, side-of-reads.Asked, side-of-reads.Learnt, room-at-reads.Asked, room-at-reads.Learnt, face-reads.Asked, face-reads.Learnt, share-reads.Asked, share-reads.Learnt) reads.Pre reads.Post)
     → let e = r .before .before .before .before .before .before .before .before .before .before .before .before .before in
     let k = e .before .before .before .before in
     let a = k .before .before .before .before .before .before .before .before .before .before .before .before .before .before .args in
@@ -146,14 +147,18 @@ drawn r =
       r .room-at2 .ensures ∙ room-is (g .kind) (g .readable) left (g .lefts) (g .bottoms) (a .second) (at .2) (past .1) (at .3),
     )
 
+face-on-one-line-requires : tie.Need-face-on-one-line-requires
+face-on-one-line-requires c κs = search needs
+
 share-inner-line-requires : tie.Need-share-inner-line-requires
 share-inner-line-requires c κs =
-    let e = c .before .before .before .before .before .before .before .before .before .before .before .before .before in
+    let r = c .before in
+    let e = r .before .before .before .before .before .before .before .before .before .before .before .before .before in
     let k = e .before .before .before .before in
     let a = k .before .before .before .before .before .before .before .before .before .before .before .before .before .before .args in
     let g = given k in
     let at = both e in
-    let rooms = drawn c in
+    let rooms = drawn r in
     let f = labelAt (labelsOf (a .«record» .now)) in
     let n = kindOf (a .«record» .now) in (
       subst₂ (λ (m : ℕ) (room : Room). Within m room) (sym (g .kind)) (sym (rooms .0)) (drawn-within f n (a .first) (at .0) (omega (arith, at .1, g .kind))),
@@ -167,7 +172,8 @@ returns-4 c =
 
 returns-5 : tie.Need-returns-5
 returns-5 c =
-    let w = c .before .before .before .before .before .before .before .before .before .before .before in
+    let r = c .before .before in
+    let w = r .before .before .before .before .before .before .before .before .before .before in
     let d = w .before .before in
     let e = d .before in
     let k = e .before .before .before .before in
@@ -176,9 +182,11 @@ returns-5 c =
     let at = both e in
     let past = k .before .before .before .before .before .before .before .before .before .before .before .before .earlier .ensures in
     let left = g .long (g .few) (omega (arith, past .0, at .0, at .1)) in
-    let rooms = drawn (c .before) in
-    related-answer (g .kind) (g .readable) (a .first) (a .second) (inside e) (d .if3 .left)
-    (w .relation-of .ensures ∙ relation-is (g .kind) (g .readable) left (a .first) (a .second) (at .0) (past .0) (at .1) (at .2) (past .1) (at .3))
+    let rooms = drawn r in
+    related-answer (g .kind) (g .readable) (a .first) (a .second) (inside e) (g .few) (d .if3 .left)
+    (w .side-of .ensures ∙ side-is (g .kind) (g .readable) left (a .first) (a .second) (at .0) (past .0) (at .1) (at .2) (past .1) (at .3))
+    (subst₂ (λ (one other : Room). Tells (c .before .face-on-one-line .result) (FaceOnOneLine one other)) (rooms .0) (rooms .1)
+    (c .before .face-on-one-line .ensures))
     (subst₂ (λ (one other : Room). Tells (c .share-inner-line .result) (ShareInnerLine (k .before .n .given .0 .0) one other)) (rooms .0) (rooms .1)
     (c .share-inner-line .ensures))
 
@@ -198,10 +206,11 @@ question-spec =
     outside-requires-2
     returns-2
     returns-3
-    slice-aggregate-relation-of
-    relation-of-requires
+    slice-aggregate-side-of
+    side-of-requires
     room-at-requires
     room-at-requires-2
+    face-on-one-line-requires
     share-inner-line-requires
     returns-4
     returns-5)

@@ -1,36 +1,43 @@
-//! Floorplans of any shape: whether two rooms touch is read off the segments of
-//! the plan as it stands, and must be what is answered for its record, which
-//! knows nothing of where the segments slid.
+//! Floorplans of any shape: how two rooms stand to each other, directly or
+//! through others, and whether they touch is read off the segments of the plan
+//! as it stands, and must be what is answered for its record, which knows
+//! nothing of where the segments slid.
 
-use crate::help::share_an_edge;
+use crate::help::{share_an_edge, shown, Kind};
 use compare::floorplan::some_box;
-use compare::{grouped, report, AskedPlan, Floorplan, Tally};
+use compare::{report, AskedPlan, Floorplan, Tally};
 use reference::cases::walk::list_in_turn;
 use reference::cases::{baxter_lists, baxter_lists_up_to, Random, BAXTER_NUMBERS};
-use reference::{numbering_of, Room};
-use std::collections::BTreeSet;
+use reference::{numbering_of, Relation, Room, Side};
+use std::collections::{BTreeMap, BTreeSet};
 
 /// All pairs of two different numbers below `n`, in both orders.
 fn pairs(n: usize) -> impl Iterator<Item = (usize, usize)> {
     (0..n).flat_map(move |a| (0..n).filter(move |&b| b != a).map(move |b| (a, b)))
 }
 
-/// The pairs of positions of a plan for whose rooms something holds.
-fn pairs_that(plan: &AskedPlan, hold: impl Fn(usize, usize) -> bool) -> BTreeSet<[u8; 2]> {
-    let holding = pairs(plan.rooms.len()).filter(|&(a, b)| hold(a, b));
-    holding
-        .map(|(a, b)| [plan.positions[a], plan.positions[b]])
-        .collect()
+/// All pairs of two different rooms in every plan of up to 6 rooms.
+fn pairs_of_up_to_6_rooms() -> usize {
+    let pairs = |n: usize| BAXTER_NUMBERS[n - 1] * n * (n - 1);
+    (1..=6).map(pairs).sum()
 }
 
-/// The pairs of positions whose rooms touch, by the segments of the plan.
-fn touching(plan: &AskedPlan) -> BTreeSet<[u8; 2]> {
-    pairs_that(plan, |a, b| plan.contacts.touch(a, b))
+/// How the rooms of every two positions stand to each other and whether they
+/// touch, by the segments of the plan.
+fn standings(plan: &AskedPlan) -> BTreeMap<[u8; 2], (Relation, bool)> {
+    let positions = |a: usize, b: usize| [plan.positions[a], plan.positions[b]];
+    let all = pairs(plan.rooms.len());
+    all.map(|(a, b)| (positions(a, b), plan.standing(a, b)))
+        .collect()
 }
 
 /// The pairs of positions whose rooms have a piece of edge in common.
 fn with_a_shared_edge(plan: &AskedPlan) -> BTreeSet<[u8; 2]> {
-    pairs_that(plan, |a, b| share_an_edge(plan.rooms[a], plan.rooms[b]))
+    let share = |&(a, b): &(usize, usize)| share_an_edge(plan.rooms[a], plan.rooms[b]);
+    let sharing = pairs(plan.rooms.len()).filter(share);
+    sharing
+        .map(|(a, b)| [plan.positions[a], plan.positions[b]])
+        .collect()
 }
 
 /// Asks for all pairs of rooms.
@@ -38,6 +45,44 @@ fn ask_every_pair(tally: &mut Tally, plan: &AskedPlan) {
     for (first, second) in pairs(plan.rooms.len()) {
         tally.question_of_rooms(plan, first, second);
     }
+}
+
+/// Asks for two rooms, and holds the answer to the chains of direct steps: one
+/// leads from the first to the second on the side that is answered, and none on
+/// another side; if the relation is direct it is one step, and else there is no
+/// one step and it takes two or more. Gives the least number of steps.
+fn ask_for_chains(tally: &mut Tally, plan: &AskedPlan, first: usize, second: usize) -> usize {
+    let (relation, _) = tally.question_of_rooms(plan, first, second);
+    let rooms = &plan.rooms;
+    let mut steps = Vec::new();
+    for side in Side::ALL {
+        let is_answered = side == relation.side;
+        let one_step = plan.contacts.directly(side, first, second);
+        assert_eq!(one_step, is_answered && relation.direct, "{rooms:?}");
+        let least = plan.chains.steps(side, first, second);
+        assert_eq!(least.is_some(), is_answered, "{rooms:?}");
+        steps.extend(least);
+    }
+    assert_eq!(steps[0] == 1, relation.direct, "{rooms:?}");
+    usize::from(steps[0])
+}
+
+/// The kind of two rooms of a plan.
+fn kind_of(plan: &AskedPlan, first: usize, second: usize) -> Kind {
+    let rooms = [first, second].map(|place| plan.rooms[place]);
+    Kind::of(rooms, plan.standing(first, second))
+}
+
+/// Another room than the first one, which with it is a pair of this kind, or
+/// any if there is none.
+fn some_other(plan: &AskedPlan, first: usize, kind: Kind, random: &mut Random) -> usize {
+    let others = (0..plan.rooms.len()).filter(|&other| other != first);
+    let others: Vec<usize> = others.collect();
+    let sought = others.iter().copied();
+    let sought: Vec<usize> = sought
+        .filter(|&other| kind_of(plan, first, other) == kind)
+        .collect();
+    random.pick(if sought.is_empty() { &others } else { &sought })
 }
 
 /// A plan of `n` rooms, moved about: in one round nested, in the next a
@@ -80,7 +125,7 @@ fn every_pair_of_every_plan_of_up_to_6_rooms() {
             assert_eq!(numbering_of(&moved.rooms), Ok(plan.numbering()));
             ask_every_pair(tally, &moved);
 
-            assert_eq!(touching(&moved), touching(&drawn), "{:?}", moved.rooms);
+            assert_eq!(standings(&moved), standings(&drawn), "{:?}", moved.rooms);
             let does = with_a_shared_edge(&moved) != with_a_shared_edge(&drawn);
             assert!(can || !does, "{:?}", moved.rooms);
             plans += 1;
@@ -94,42 +139,65 @@ fn every_pair_of_every_plan_of_up_to_6_rooms() {
     assert_eq!(plans, ROUNDS * baxter_lists_up_to(6));
     // These would not do if an answer went by shared edges.
     assert!(can_differ > plans / 4 && differ > can_differ / 3);
-    let pairs = |n: usize| BAXTER_NUMBERS[n - 1] * n * (n - 1);
-    let cases = ROUNDS * (1..=6).map(pairs).sum::<usize>();
+    let cases = ROUNDS * pairs_of_up_to_6_rooms();
     assert_eq!(tally.accepted(), cases);
     tally.finish(cases);
 }
 
 #[test]
-fn pairs_of_random_plans_of_up_to_255_rooms() {
+fn every_pair_of_every_plan_of_up_to_6_rooms_against_all_chains() {
+    const ROUNDS: usize = 4;
+    let name = "pairs of plans of up to 6 rooms, moved, by their chains";
+    let mut of_steps = [0; 6];
+    let mut of_kind = [0; Kind::ALL.len()];
+    let lists = (1..=6).flat_map(baxter_lists);
+    let tally = Tally::of_rounds(name, 124, lists, |tally, random, labels| {
+        let mut plan = Floorplan::drawn(&labels);
+        for _ in 0..ROUNDS {
+            plan.move_about(18, random);
+            let moved = AskedPlan::new(&plan);
+            for (first, second) in pairs(labels.len()) {
+                of_steps[ask_for_chains(tally, &moved, first, second)] += 1;
+                of_kind[kind_of(&moved, first, second) as usize] += 1;
+            }
+        }
+    });
+    report(shown(of_kind));
+    report(format_args!("by their steps, from 0 on: {of_steps:?}"));
+    let cases = ROUNDS * pairs_of_up_to_6_rooms();
+    assert_eq!(of_steps.iter().sum::<usize>(), cases);
+    assert_eq!(of_steps[1], of_kind[0] + of_kind[1]);
+    // Only in the row and the pile of 6 it takes 5 steps, there and back.
+    assert_eq!((of_steps[0], of_steps[5]), (0, ROUNDS * 2 * 2));
+    assert!(of_steps[1..5].iter().all(|&count| count > 50 * ROUNDS));
+    assert!(of_kind.iter().all(|&count| count > 50 * ROUNDS));
+    tally.finish(cases);
+}
+
+#[test]
+fn pairs_of_every_kind_in_random_plans_of_up_to_255_rooms() {
     const PLANS: usize = 600;
     const PAIRS: usize = 40;
     let name = "pairs of random plans of up to 255 rooms, moved";
-    let (mut touching, mut without_an_edge) = (0, 0);
+    let mut of_kind = [0; Kind::ALL.len()];
+    let mut most_steps = 0;
     let tally = Tally::of_rounds(name, 122, 0..PLANS, |tally, random, round| {
         let n = random.between(2, 255);
         let plan = AskedPlan::new(&some_plan(n, round, random));
         for pair in 0..PAIRS {
             let first = random.below(n);
-            // Of all pairs few touch, so half of the time one is sought.
-            let touches = |&other: &usize| plan.contacts.touch(first, other);
-            let others = (0..n).filter(|&other| other != first);
-            let others: Vec<usize> = others.filter(|o| pair % 2 == 0 || touches(o)).collect();
-            let second = random.pick(&others);
-            if tally.question_of_rooms(&plan, first, second) {
-                touching += 1;
-                let [a, b] = [first, second].map(|place| plan.rooms[place]);
-                without_an_edge += usize::from(!share_an_edge(a, b));
-            }
+            // Of all pairs few touch, so each kind is sought in turn.
+            let kind = Kind::ALL[pair % Kind::ALL.len()];
+            let second = some_other(&plan, first, kind, random);
+            let steps = ask_for_chains(tally, &plan, first, second);
+            of_kind[kind_of(&plan, first, second) as usize] += 1;
+            most_steps = most_steps.max(steps);
         }
     });
-    report(format_args!(
-        "{} of the pairs touch, {} of these without a shared edge",
-        grouped(touching),
-        grouped(without_an_edge)
-    ));
-    assert!((PLANS * PAIRS / 2..PLANS * PAIRS * 3 / 4).contains(&touching));
-    assert!(without_an_edge > PLANS * PAIRS / 20);
+    report(shown(of_kind));
+    report(format_args!("through at most {most_steps} steps"));
+    assert!(of_kind.iter().all(|&count| count > PLANS * PAIRS / 10));
+    assert!(most_steps > 20);
     assert_eq!(tally.accepted(), PLANS * PAIRS);
     tally.finish(PLANS * PAIRS);
 }
@@ -145,7 +213,8 @@ fn every_pair_of_some_plans_of_255_rooms() {
 
         plan.move_about(255, random);
         let moved = AskedPlan::new(&plan);
-        assert_eq!(touching(&moved), touching(&asked), "{}", moved.record);
+        let same = standings(&moved) == standings(&asked);
+        assert!(same, "a relation or a touch is another in {}", moved.record);
         let shared = [&asked, &moved].map(with_a_shared_edge);
         assert!(shared[0] != shared[1], "nothing slid in {}", moved.record);
     });

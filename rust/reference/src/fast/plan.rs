@@ -2,7 +2,7 @@
 
 use super::steps::{read, Step, Steps, NO_STEPS};
 use super::walks::{walk, walk_back, AllSeen, Seen, NOTHING_SEEN};
-use crate::{Corners, Refusal, Relation};
+use crate::{Corners, Refusal, Relation, Side};
 use std::hint::select_unpredictable;
 
 /// Record in, with the answers of [`crate::record_in`].
@@ -69,25 +69,27 @@ pub fn question(record: &[u8], first: u8, second: u8) -> Result<(Relation, bool)
     });
     let is_left = found[0].0 < found[1].0;
     let entered = found.map(|(_, entered)| entered);
-    let touch = touch(n, &steps, &seen, places, entered);
-    let relation = match (is_left, first == earlier) {
-        (true, true) => Relation::Left,
-        (true, false) => Relation::Right,
-        (false, true) => Relation::Below,
-        (false, false) => Relation::Above,
+    let (direct, touch) = contact(n, &steps, &seen, places, entered);
+    let side = match (is_left, first == earlier) {
+        (true, true) => Side::Left,
+        (true, false) => Side::Right,
+        (false, true) => Side::Below,
+        (false, false) => Side::Above,
     };
-    Ok((relation, touch))
+    Ok((Relation { side, direct }, touch))
 }
 
-/// Whether the rooms at two places touch, of which the earlier one comes first.
-/// For each, `entered` is what the walk from the back gave.
+/// Whether the rooms at two places, of which the earlier one comes first, are
+/// in a direct relation, and whether they touch. For each, `entered` is what
+/// the walk from the back gave.
 ///
 /// In the drawing every line from 1 to n − 1 has at most one segment, and the
 /// lines 0 and n have the outline sides. So two rooms touch exactly if they
 /// have a line in common that is not one of those. As the earlier room is left
 /// of the later one or below it, there are three ways to have one:
 ///
-/// - The earlier room ends where the later one starts. This is inside.
+/// - The earlier room ends where the later one starts. This is inside, and
+///   these are the facing edges: then, and only then, the relation is direct.
 /// - Both start there. The earlier room starts before the place of the later
 ///   one, so this is where the later one starts the other way.
 /// - Both end there. The later room ends after the position of the earlier
@@ -95,13 +97,13 @@ pub fn question(record: &[u8], first: u8, second: u8) -> Result<(Relation, bool)
 ///
 /// Nothing of it can be foreseen, so there are no branches.
 #[inline(always)]
-fn touch(
+fn contact(
     n: usize,
     steps: &Steps,
     seen: &AllSeen,
     [earlier, later]: [usize; 2],
     entered: [u16; 2],
-) -> bool {
+) -> (bool, bool) {
     let start_of_earlier = |across| start(earlier, steps[earlier], seen[earlier], across);
     let end_of_earlier = |across| end(earlier, steps[earlier + 1], entered[0], across);
     let end_of_later = |across| end(later, steps[later + 1], entered[1], across);
@@ -113,7 +115,7 @@ fn touch(
     let start_together = (start_of_earlier(across) == newest) & (newest > 0);
     let across = steps[earlier + 1].goes_down();
     let end_together = (end_of_later(across) == entered[0]) & (usize::from(entered[0]) < n);
-    meet | start_together | end_together
+    (meet, meet | start_together | end_together)
 }
 
 /// Where the room at a place starts across, its left, or else its bottom: the

@@ -1,21 +1,27 @@
 //! When two rooms touch. The request M-101 says it, and its rule replaces the
-//! one in "The grid drawing" of the sheet.
+//! one in "The grid drawing" of the sheet. The same segments say which rooms
+//! are in a direct relation.
 
+use super::chains::{is_directly, Chains};
 use super::ranks::{far_sides, ranked};
 use super::segments::{supports_of, Segment, Supports};
 use crate::edge::Line;
-use crate::Room;
+use crate::{Room, Side};
 
 /// Which rooms of a floorplan touch: "Two rooms now touch when one segment
 /// that is not an outline side supports both, from the same side or from
-/// opposite sides."
+/// opposite sides." And which of them are directly left, right, above or below
+/// of which.
 ///
-/// The segments are found once, and then all pairs can be asked for.
+/// The segments are found once, and then all pairs can be asked for: two
+/// different rooms, each named by its place in the list, from 0 on.
 #[derive(Clone, Debug)]
 pub struct Contacts {
-    /// The segments that support each room and are not outline sides, in list
-    /// order.
-    inner_supports: Vec<Vec<Segment>>,
+    /// The segments that support each room, in list order.
+    supports: Vec<Supports>,
+    /// Where the right and the top side of the outline are. The other two are
+    /// at 0.
+    far_sides: (u16, u16),
 }
 
 impl Contacts {
@@ -29,19 +35,13 @@ impl Contacts {
     pub fn of(rooms: &[Room]) -> Self {
         // By ranks the unit pieces are few, however long the edges are.
         let rooms = ranked(rooms);
-        let (right, top) = far_sides(&rooms);
-        let is_inner = |segment: &Segment| match segment.0.line {
-            Line::Vertical(x) => x != 0 && x != right,
-            Line::Horizontal(y) => y != 0 && y != top,
-        };
-        let inner = |supports: &Supports| supports.all().into_iter().filter(is_inner).collect();
         Self {
-            inner_supports: supports_of(&rooms).iter().map(inner).collect(),
+            supports: supports_of(&rooms),
+            far_sides: far_sides(&rooms),
         }
     }
 
-    /// Whether two rooms touch. They are two different ones, each named by its
-    /// place in the list, from 0 on.
+    /// Whether two rooms touch.
     ///
     /// The sides are not asked for. All edges on one segment have its
     /// direction, so it supports each room from the left or the right, or
@@ -53,9 +53,35 @@ impl Contacts {
     /// If the list has no such place.
     #[must_use]
     pub fn touch(&self, first: usize, second: usize) -> bool {
-        let of_second = &self.inner_supports[second];
-        let mut of_first = self.inner_supports[first].iter();
-        of_first.any(|segment| of_second.contains(segment))
+        let of_second = self.supports[second].all();
+        let mut of_first = self.supports[first].all().into_iter();
+        of_first.any(|segment| self.is_inner(segment) && of_second.contains(&segment))
+    }
+
+    /// Whether the first room is directly on this side of the second.
+    ///
+    /// # Panics
+    ///
+    /// If the list has no such place.
+    #[must_use]
+    pub fn directly(&self, side: Side, first: usize, second: usize) -> bool {
+        is_directly(side, &self.supports[first], &self.supports[second])
+    }
+
+    /// The chains of direct steps, in a floorplan of at most 255 rooms. That
+    /// takes longer than to find the segments.
+    #[must_use]
+    pub fn chains(&self) -> Chains {
+        Chains::of(&self.supports)
+    }
+
+    /// Whether a segment is not an outline side.
+    fn is_inner(&self, segment: Segment) -> bool {
+        let (right, top) = self.far_sides;
+        match segment.0.line {
+            Line::Vertical(x) => x != 0 && x != right,
+            Line::Horizontal(y) => y != 0 && y != top,
+        }
     }
 }
 

@@ -1,7 +1,8 @@
 //! Records are equal exactly where floorplans are equivalent, and equivalent
-//! floorplans have the same rooms touching.
+//! floorplans have the same rooms touching and in the same relations, direct or
+//! not.
 
-use crate::help::{ask, touching};
+use crate::help::{ask, standings};
 use reference::cases::{baxter_lists, rooms, Random};
 use reference::{drawing, equivalent, plan_of, Room};
 use std::collections::BTreeMap;
@@ -65,15 +66,15 @@ struct Kinds {
 
 impl Kinds {
     /// A floorplan with a known record is equivalent to the first with it, and
-    /// the same of its rooms touch as in the drawing.
+    /// its rooms stand to each other and touch as in the drawing.
     fn meet(&mut self, rooms: &[Room]) {
         if rooms.len() > 6 {
             return;
         }
         if let Ok(answer) = ask(rooms) {
             let drawn = plan_of(&answer.record).unwrap().rooms;
-            let by_position = touching(&drawn, &[1, 2, 3, 4, 5, 6]);
-            assert_eq!(touching(rooms, &answer.positions), by_position, "{rooms:?}");
+            let in_drawing = standings(&drawn, &[1, 2, 3, 4, 5, 6]);
+            assert_eq!(standings(rooms, &answer.positions), in_drawing, "{rooms:?}");
 
             let first = self.first.entry(answer.record);
             let first = first.or_insert_with(|| rooms.to_vec());

@@ -1,7 +1,7 @@
 //! What the tests of this folder share.
 
-use reference::{rooms_in, Contacts, Numbering, Refusal, Room};
-use std::collections::BTreeSet;
+use reference::{rooms_in, Contacts, Numbering, Refusal, Relation, Room};
+use std::collections::BTreeMap;
 
 /// Asks Rooms in, with slices that are longer than needed.
 pub fn ask(rooms: &[Room]) -> Result<Numbering, Refusal> {
@@ -30,14 +30,17 @@ pub fn label_list(answer: &Numbering) -> Vec<u8> {
         .collect()
 }
 
-/// The pairs of positions whose rooms touch, given the position of each room.
-pub fn touching(rooms: &[Room], positions: &[u8]) -> BTreeSet<[u8; 2]> {
+/// How the rooms of each pair of positions stand to each other and whether they
+/// touch, given the position of each room.
+pub fn standings(rooms: &[Room], positions: &[u8]) -> BTreeMap<[u8; 2], (Relation, bool)> {
     let contacts = Contacts::of(rooms);
-    let mut pairs = BTreeSet::new();
+    let chains = contacts.chains();
+    let mut standings = BTreeMap::new();
     for a in 0..rooms.len() {
-        for b in (0..rooms.len()).filter(|&b| b != a && contacts.touch(a, b)) {
-            pairs.insert([positions[a], positions[b]]);
+        for b in (0..rooms.len()).filter(|&b| b != a) {
+            let standing = (chains.relation(a, b), contacts.touch(a, b));
+            standings.insert([positions[a], positions[b]], standing);
         }
     }
-    pairs
+    standings
 }

@@ -1,6 +1,6 @@
 //! Long lists.
 
-use crate::help::{ask, label_list, touching};
+use crate::help::{ask, label_list, standings};
 use reference::cases::walk::{random_list, Walked};
 use reference::cases::Random;
 use reference::{drawing, labels_in, plan_of, Room};
@@ -50,14 +50,15 @@ fn the_record_of_255_rooms_stands_for_their_label_list() {
         let plan = plan_of(&answer.record).unwrap();
         assert_eq!(plan.labels, label_list(&answer));
 
-        // The drawing of the record is an equal floorplan, and the same rooms
-        // touch in it.
+        // The drawing of the record is an equal floorplan, and its rooms stand
+        // to each other and touch in the same way.
         let again = ask(&plan.rooms).unwrap();
         assert_eq!(again.record, answer.record);
         assert_eq!(again.labels, plan.labels);
         assert_eq!(again.positions, (1..=255).collect::<Vec<u8>>());
-        let pairs = touching(&rooms, &answer.positions);
-        assert_eq!(pairs, touching(&plan.rooms, &again.positions));
+        let by_position = standings(&rooms, &answer.positions);
+        assert_eq!(by_position.len(), 255 * 254);
+        assert!(by_position == standings(&plan.rooms, &again.positions));
     }
 }
 

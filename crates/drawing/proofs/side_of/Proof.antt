@@ -1,9 +1,9 @@
--- `relation_of` meets its contract. Each of the four answers is given where the two comparisons of its case hold.
--- The laws of the relation's cases say that it is the one that is defined.
-use Rattle.drawing.proofs.Cases.{relation-left, relation-below, relation-right, relation-above}
+-- `side_of` meets its contract. Each of the four answers is given where the two comparisons of its case hold.
+-- The laws of these cases say that it is the one that is defined.
+use Rattle.drawing.proofs.Cases.{side-left, side-below, side-right, side-above}
 use borrow.Author.Needs.{needs}
-use Rattle.drawing.proofs.relation_of.Statement.{statement}
-use Rattle.drawing.proofs.relation_of.Tie as tie
+use Rattle.drawing.proofs.side_of.Statement.{statement}
+use Rattle.drawing.proofs.side_of.Tie as tie
 
 index-requires : tie.Need-index-requires
 index-requires c κs = search needs
@@ -21,13 +21,13 @@ returns : tie.Need-returns
 returns c =
     let second = c .before .before .before .before .index2 in
     let first = c .before .before .before .before .before .index in
-    relation-left _ _ _ (first .result) (second .result) (first .ensures) (second .ensures) (c .before .before .before .if1 .taken) (c .if2 .taken)
+    side-left _ _ _ (first .result) (second .result) (first .ensures) (second .ensures) (c .before .before .before .if1 .taken) (c .if2 .taken)
 
 returns-2 : tie.Need-returns-2
 returns-2 c =
     let second = c .before .before .before .before .index2 in
     let first = c .before .before .before .before .before .index in
-    relation-below _ _ _ (first .result) (second .result) (first .ensures) (second .ensures) (c .before .before .before .if1 .taken) (c .if2 .left)
+    side-below _ _ _ (first .result) (second .result) (first .ensures) (second .ensures) (c .before .before .before .if1 .taken) (c .if2 .left)
 
 shared-slice-read-if3 : tie.Need-shared-slice-read-if3
 shared-slice-read-if3 c = search needs
@@ -39,16 +39,16 @@ returns-3 : tie.Need-returns-3
 returns-3 c =
     let second = c .before .before .before .before .index2 in
     let first = c .before .before .before .before .before .index in
-    relation-right _ _ _ (first .result) (second .result) (first .ensures) (second .ensures) (c .before .before .before .if1 .left) (c .if3 .taken)
+    side-right _ _ _ (first .result) (second .result) (first .ensures) (second .ensures) (c .before .before .before .if1 .left) (c .if3 .taken)
 
 returns-4 : tie.Need-returns-4
 returns-4 c =
     let second = c .before .before .before .before .index2 in
     let first = c .before .before .before .before .before .index in
-    relation-above _ _ _ (first .result) (second .result) (first .ensures) (second .ensures) (c .before .before .before .if1 .left) (c .if3 .left)
+    side-above _ _ _ (first .result) (second .result) (first .ensures) (second .ensures) (c .before .before .before .if1 .left) (c .if3 .left)
 
-pub relation-of-spec : {M : Type 1} → statement M
-relation-of-spec =
+pub side-of-spec : {M : Type 1} → statement M
+side-of-spec =
     tie.close
     (tie.spec
     index-requires
