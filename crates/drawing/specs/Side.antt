@@ -11,7 +11,7 @@ unfoldable pub sideOf : (ℕ → ℕ) → (i j : ℕ) → Side
 unfolding decLt
 sideOf f i j = ite (decLt i j) (ite (decLt (f i) (f j)) Left Below) (ite (decLt (f j) (f i)) Right Above)
 
--- the side of the one room on which the other stands, where the one stands on a side of the other
+-- the opposite side: where the first room stands on a side of the second, the second stands on this side of the first
 abbrev pub converse : Side → Side
 converse Left = Right
 converse Right = Left

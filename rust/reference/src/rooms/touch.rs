@@ -10,8 +10,8 @@ use crate::{Room, Side};
 
 /// Which rooms of a floorplan touch: "Two rooms now touch when one segment
 /// that is not an outline side supports both, from the same side or from
-/// opposite sides." And which of them are directly left, right, above or below
-/// of which.
+/// opposite sides." And which of them are directly left of, right of, above or
+/// below which.
 ///
 /// The segments are found once, and then all pairs can be asked for: two
 /// different rooms, each named by its place in the list, from 0 on.
