@@ -7,4 +7,5 @@ pub mod SumBelow
 pub mod Count
 pub mod Table
 pub mod Fill
+pub mod Put
 pub mod Every

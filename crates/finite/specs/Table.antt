@@ -1,7 +1,7 @@
 -- The list of f 0 to f (n - 1).
-use mathlib.Core.Path.{_≡_, refl, ap}
-use mathlib.Core.List.{List, [], _∷_}
-use Prim.Native.Nat.{ℕ, zero, suc, _≤_, _<_}
+use mathlib.Core.Path.{_≡_, refl, ap, _∙_}
+use mathlib.Core.List.{List, [], _∷_, _++_}
+use Prim.Native.Nat.{ℕ, zero, suc, _+_, _≤_, _<_}
 use native.Mathlib.Nat.{not-suc-le-zero}
 use native.Mathlib.Omega.{arith}
 use lib.ListN.{length, getD, take}
@@ -32,3 +32,15 @@ pub table-same : {A : Type 0} (f g : ℕ → A) (n : ℕ) → ((i : ℕ) → i <
 unfolding table
 table-same f g zero h = refl
 table-same f g (suc n) h = λ j. h 0 (omega arith) j ∷ table-same (λ i. f (suc i)) (λ i. g (suc i)) n (λ i l. h (suc i) (omega arith)) j
+
+-- one list after the other
+pub table-append : {A : Type 0} (f : ℕ → A) (n m : ℕ) → table f (n + m) ≡ table f n ++ table (λ i. f (n + i)) m
+unfolding table
+table-append f zero m =
+    let same : 0 + m ≡ m = omega arith in
+    ap (table f) same ∙ table-same f (λ i. f (0 + i)) m (λ i h. ap f (omega arith))
+table-append f (suc n) m =
+    let same : suc n + m ≡ suc (n + m) = omega arith in
+    ap (table f) same ∙ ap (λ (rest : List _). f 0 ∷ rest) (table-append (λ i. f (suc i)) n m
+    ∙ ap (λ (rest : List _). table (λ i. f (suc i)) n ++ rest)
+    (table-same (λ i. f (suc (n + i))) (λ i. f (suc n + i)) m (λ i h. ap f (omega arith))))

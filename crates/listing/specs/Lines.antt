@@ -8,8 +8,7 @@ use native.Mathlib.Numerals.{add-one}
 use Rattle.drawing.specs.declared.Room.{Room}
 use Rattle.digits.specs.Ascii.{ascii}
 use Rattle.text.specs.Form.{filled}
-use Rattle.text.specs.Put.{Put}
-use Rattle.text.specs.Puts.{put-none, put-more, put-as}
+use Rattle.finite.specs.Put.{Put, put-none, put-more, put-as}
 use Rattle.text.specs.Viewed.{Local}
 use Rattle.listing.specs.Text.{headOf, lineOf, linesOf, listing}
 

@@ -1,7 +1,7 @@
 // Puts the listing of a plan: a header line, then a line for each position.
 ghost use Prim.Native.Nat.{_+_, _*_, _≤_};
 ghost use lib.ListN.{length};
-ghost use Rattle.text.specs.Put.{Put};
+ghost use Rattle.finite.specs.Put.{Put};
 ghost use Rattle.text.specs.Places.{Places, viewIn};
 ghost use Rattle.listing.specs.Text.{lineOf, linesOf, listing};
 use drawing::Room;

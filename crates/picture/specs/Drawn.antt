@@ -12,8 +12,7 @@ use Rattle.drawing.specs.Corners.{roomIn}
 use Rattle.contacts.specs.GridLine.{lineBetween}
 use Rattle.answers.specs.declared.RecordAnswer.the-variants.{Read}
 use Rattle.digits.specs.Ascii.{ascii}
-use Rattle.text.specs.Put.{Put}
-use Rattle.text.specs.Puts.{put-none, put-more, put-as}
+use Rattle.finite.specs.Put.{Put, put-none, put-more, put-as}
 use Rattle.text.specs.Viewed.{Local, Written, room-read}
 use Rattle.shapes.specs.Picture.{rectangle, names, roomsDrawn, segmentDrawn, segmentsDrawn, head, picture}
 

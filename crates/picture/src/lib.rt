@@ -1,7 +1,7 @@
 // Puts the picture of a plan: the head, then the rooms, then the inner segments.
 ghost use Prim.Native.Nat.{_+_, _*_, _≤_};
 ghost use lib.ListN.{length};
-ghost use Rattle.text.specs.Put.{Put};
+ghost use Rattle.finite.specs.Put.{Put};
 ghost use Rattle.text.specs.Places.{viewIn};
 ghost use Rattle.shapes.specs.Picture.{rooms, segments, picture};
 ghost use Rattle.shapes.specs.Plan.{Plan};

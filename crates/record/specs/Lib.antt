@@ -16,6 +16,7 @@ pub mod Decode
 pub mod Positions
 pub mod Read
 pub mod NextTo
+pub mod Rising
 pub mod Forward
 pub mod Sizes
 pub mod Backward

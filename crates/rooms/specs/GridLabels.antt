@@ -3,15 +3,14 @@
 use mathlib.Core.Path.{_≡_, sym, ap, _∙_}
 use mathlib.Core.Logic.{_≢_}
 use mathlib.Core.List.{List}
-use Prim.Native.Nat.{ℕ, zero, suc, _-_, _≤_, _<_, zero-le}
+use Prim.Native.Nat.{ℕ, zero, suc, _-_, _≤_, _<_}
 use native.Mathlib.Omega.{arith}
 use lib.ListN.{length}
 use lib.Seq.{ext-getD}
-use Rattle.finite.specs.Search.{Some}
-use Rattle.finite.specs.Count.{height-is-level, rising-is-same}
+use Rattle.finite.specs.Count.{rising-is-same}
 use Rattle.record.specs.Labels.{labelAt}
 use Rattle.record.specs.Barred.{Baxter}
-use Rattle.record.specs.NextTo.{every}
+use Rattle.record.specs.Rising.{rising-is-label}
 use Rattle.drawing.specs.declared.Room.{Room}
 use Rattle.drawing.specs.Drawing.{drawingOf}
 use Rattle.rooms.specs.Outline.{SixteenBits}
@@ -65,33 +64,30 @@ module _ (labels : List ℕ) (baxter : Baxter labels) (some : 1 ≤ length label
         | across-back r ↦ absurd (omega (arith, below r))
       ]
 
-  -- labels rise with the labels of the list, which are 1 to n
+  -- labels rise with the labels of the list
   pub drawing-label : (a : ℕ) → a < length rooms → labelOf (drawingOf labels) a ≡ labelAt labels (suc a)
   drawing-label a h =
-      let l = own a h in
-      omega (arith, range a h, height-is-level (length rooms) (λ a. f (suc a) - 1) (λ a. labelOf rooms a - 1) taken rises (λ a h. omega (arith, range a h)) a h (omega arith))
+      rising-is-label f (length labels) (baxter .each-once) at range rises (suc a) (omega arith) (omega (arith, length-drawing labels))
     where
-      range : (a : ℕ) → a < length rooms → (1 ≤ labelOf rooms a) × (labelOf rooms a ≤ length rooms)
-      range = labels-1-to-n rooms k .range
+      at : ℕ → ℕ
+      at zero = 0
+      at (suc a) = labelOf rooms a
 
-      own : (a : ℕ) → a < length rooms → (1 ≤ f (suc a)) × (f (suc a) ≤ length rooms)
-      own a h = omega (arith, length-drawing labels, baxter .each-once .range (suc a) (omega arith) (omega (arith, length-drawing labels)))
+      range : (i : ℕ) → 1 ≤ i → i ≤ length labels → (1 ≤ at i) × (at i ≤ length labels)
+      range zero l h = absurd (omega arith)
+      range (suc a) l h = omega (arith, length-drawing labels, labels-1-to-n rooms k .range a (omega (arith, length-drawing labels)))
 
-      taken : (v : ℕ) → v < length rooms → Some (λ a. f (suc a) - 1 ≡ v) 0 (length rooms)
-      taken v h = go (every f (length labels) (baxter .each-once) (suc v) (omega arith) (omega (arith, length-drawing labels)))
-        where
-          go : Some (λ i. f i ≡ suc v) 1 (suc (length labels)) → Some (λ a. f (suc a) - 1 ≡ v) 0 (length rooms)
-          go (zero, l, u, e) = absurd (omega arith)
-          go (suc a, l, u, e) = (a, zero-le, omega (arith, length-drawing labels), omega arith)
-
-      rises : (a b : ℕ) → a < length rooms → b < length rooms → f (suc b) - 1 ≡ suc (f (suc a) - 1)
-          → labelOf rooms a - 1 < labelOf rooms b - 1
-      rises a b ha hb e = elim (related a b ha hb (λ q. omega (arith, ap (λ (c : ℕ). f (suc c)) q))) [
-        | along r ↦ omega (arith, range a ha, left→earlier rooms k r)
-        | along-back r ↦ absurd (omega (arith, left r))
-        | across r ↦ absurd (omega (arith, below r))
-        | across-back r ↦ omega (arith, range a ha, below→earlier rooms k r)
-      ]
+      rises : (i j : ℕ) → 1 ≤ i → i ≤ length labels → 1 ≤ j → j ≤ length labels → f j ≡ suc (f i) → at i < at j
+      rises zero j l h m g e = absurd (omega arith)
+      rises (suc a) zero l h m g e = absurd (omega arith)
+      rises (suc a) (suc b) l h m g e =
+          elim (related a b (omega (arith, length-drawing labels)) (omega (arith, length-drawing labels))
+          (λ q. omega (arith, ap (λ (c : ℕ). f (suc c)) q))) [
+            | along r ↦ left→earlier rooms k r .1
+            | along-back r ↦ absurd (omega (arith, left r))
+            | across r ↦ absurd (omega (arith, below r))
+            | across-back r ↦ below→earlier rooms k r .1
+          ]
 
   pub drawing-has-labels : labelList (drawingOf labels) ≡ labels
   drawing-has-labels = ext-getD 0 (labelList rooms) labels (length-label-list rooms k ∙ length-drawing labels) (λ i h.

@@ -5,7 +5,7 @@ ghost use Prim.Native.Nat.{_+_, _≤_};
 ghost use lib.ListN.{length};
 ghost use Rattle.drawing.specs.Within.{Within};
 ghost use Rattle.contacts.specs.GridLine.{lineBetween};
-ghost use Rattle.text.specs.Put.{Put};
+ghost use Rattle.finite.specs.Put.{Put};
 ghost use Rattle.shapes.specs.Picture.{shortSide, rectangle, names, segmentDrawn, head};
 use drawing::Room;
 use record::Label;

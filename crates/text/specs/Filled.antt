@@ -11,8 +11,7 @@ use lib.Seq.{drop-cons, drop-length}
 use Rattle.digits.specs.Decimal.{decimal}
 use Rattle.digits.specs.Digits.{decimal-short}
 use Rattle.text.specs.Form.{mark, filled}
-use Rattle.text.specs.Put.{Put}
-use Rattle.text.specs.Puts.{put-none, put-more, put-as}
+use Rattle.finite.specs.Put.{Put, put-none, put-more, put-as}
 
 -- ---- the first byte of a form
 at-mark : (byte number : ℕ) (form numbers : List ℕ) → byte ≡ mark

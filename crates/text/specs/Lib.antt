@@ -1,6 +1,5 @@
 -- Definitions
 pub mod Form
-pub mod Put
 pub mod View
 pub mod Places
 -- Laws

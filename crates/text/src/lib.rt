@@ -7,7 +7,7 @@ ghost use Rattle.record.specs.Refusal.{numberOf};
 ghost use Rattle.drawing.specs.Corners.{roomIn};
 ghost use Rattle.digits.specs.Decimal.{decimal};
 ghost use Rattle.text.specs.Form.{filled};
-ghost use Rattle.text.specs.Put.{Put};
+ghost use Rattle.finite.specs.Put.{Put};
 ghost use Rattle.text.specs.View.{refusedLine};
 use drawing::Room;
 use record::Refusal;

@@ -1,7 +1,7 @@
 -- `listing::put_line` meets its contract: a line is a form with six numbers.
 use native.Mathlib.Omega.{arith}
 use borrow.Author.Needs.{needs}
-use Rattle.text.specs.Puts.{put-as}
+use Rattle.finite.specs.Put.{put-as}
 use Rattle.listing.specs.Lines.{line-form}
 use Rattle.listing.proofs.put_line.Statement.{statement}
 use Rattle.listing.proofs.put_line.Tie as tie

@@ -5,7 +5,7 @@ use borrow.Author.Needs.{needs}
 use Rattle.record.specs.Labels.{labelAt}
 use Rattle.drawing.specs.Corners.{roomIn}
 use Rattle.text.specs.Places.{viewIn}
-use Rattle.text.specs.Put.{Put}
+use Rattle.finite.specs.Put.{Put}
 use Rattle.listing.specs.Text.{linesOf}
 use Rattle.listing.specs.Lines.{no-lines, one-more, all-lines}
 use Rattle.listing.proofs.put_lines.Statement.{statement}

@@ -4,7 +4,7 @@ use native.Mathlib.Omega.{arith}
 use borrow.Author.Needs.{needs}
 use Rattle.text.specs.Form.{filled}
 use Rattle.text.specs.Places.{viewIn}
-use Rattle.text.specs.Puts.{put-more}
+use Rattle.finite.specs.Put.{put-more}
 use Rattle.listing.specs.Text.{headOf, linesOf}
 use Rattle.listing.proofs.put_listing.Statement.{statement}
 use Rattle.listing.proofs.put_listing.Tie as tie

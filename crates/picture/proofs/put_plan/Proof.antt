@@ -4,7 +4,7 @@ use native.Mathlib.Omega.{arith}
 use borrow.Author.Needs.{needs}
 use Rattle.text.specs.Form.{filled}
 use Rattle.text.specs.Places.{viewIn}
-use Rattle.text.specs.Puts.{put-more}
+use Rattle.finite.specs.Put.{put-more}
 use Rattle.shapes.specs.Picture.{head, rooms, segments}
 use Rattle.picture.proofs.put_plan.Statement.{statement}
 use Rattle.picture.proofs.put_plan.Tie as tie

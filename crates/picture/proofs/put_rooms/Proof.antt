@@ -4,7 +4,7 @@ use native.Mathlib.Omega.{arith}
 use borrow.Author.Needs.{needs}
 use Rattle.record.specs.Labels.{labelAt}
 use Rattle.drawing.specs.Corners.{roomIn}
-use Rattle.text.specs.Put.{Put}
+use Rattle.finite.specs.Put.{Put}
 use Rattle.shapes.specs.Picture.{roomsDrawn}
 use Rattle.picture.specs.Drawn.{no-rooms, one-room, all-rooms}
 use Rattle.picture.proofs.put_rooms.Statement.{statement}

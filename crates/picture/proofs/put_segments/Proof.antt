@@ -4,7 +4,7 @@ use native.Mathlib.Omega.{arith}
 use borrow.Author.Needs.{needs}
 use Rattle.record.specs.Labels.{labelAt}
 use Rattle.drawing.specs.Corners.{roomIn}
-use Rattle.text.specs.Put.{Put}
+use Rattle.finite.specs.Put.{Put}
 use Rattle.shapes.specs.Picture.{segmentsDrawn}
 use Rattle.drawing.specs.Within.{Within}
 use Rattle.picture.specs.Drawn.{no-segments, one-segment, all-segments}

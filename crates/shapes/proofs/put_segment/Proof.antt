@@ -6,7 +6,7 @@ use native.Mathlib.Decide.{decLt, ℕ-discrete}
 use native.Mathlib.Omega.{arith}
 use borrow.Author.Needs.{needs}
 use Rattle.text.specs.Form.{filled}
-use Rattle.text.specs.Puts.{put-as}
+use Rattle.finite.specs.Put.{put-as}
 use Rattle.contacts.specs.GridLine.{verticalAt, horizontalAt}
 use Rattle.shapes.specs.Picture.{segmentDrawn}
 use Rattle.shapes.proofs.put_segment.Statement.{statement}

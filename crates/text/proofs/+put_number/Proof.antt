@@ -3,7 +3,7 @@ use mathlib.Core.Path.{sym, ap}
 use native.Mathlib.Omega.{arith}
 use lib.ListN.{length}
 use borrow.Author.Needs.{needs}
-use Rattle.text.specs.Puts.{put-as, put-more}
+use Rattle.finite.specs.Put.{put-more, put-as}
 use Rattle.digits.specs.Digits.{decimal-one, decimal-more, length-more}
 use Prim.Native.Nat.{ℕ, _<_}
 use borrow.Fn.Kinds.{In}
