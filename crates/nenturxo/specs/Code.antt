@@ -14,6 +14,8 @@ use Rattle.drawing.specs.declared.Side.{Side}
 use Rattle.drawing.specs.declared.Side.the-variants.{Left, Right, Above, Below}
 use Rattle.answers.specs.declared.RecordAnswer.{RecordAnswer}
 use Rattle.answers.specs.declared.RecordAnswer.the-variants as recordIn
+use Rattle.slicing.specs.declared.TreeAnswer.{TreeAnswer}
+use Rattle.slicing.specs.declared.TreeAnswer.the-variants as tree
 use Rattle.questions.specs.declared.QuestionAnswer.{QuestionAnswer}
 use Rattle.questions.specs.declared.QuestionAnswer.the-variants as question
 use Rattle.entering.specs.declared.RoomsAnswer.{RoomsAnswer}
@@ -47,6 +49,11 @@ tidyCode (tidied.Refused refusal) = refusalCode refusal
 abbrev pub recordCode : RecordAnswer → ℤ
 recordCode (recordIn.Read n) = pos n
 recordCode (recordIn.Refused refusal) = refusalCode refusal
+
+-- Tree: the length of the cutting tree
+abbrev pub treeCode : TreeAnswer → ℤ
+treeCode (tree.Wrote size) = pos size
+treeCode (tree.Refused refusal) = refusalCode refusal
 
 -- the relations of 000, Definition 3.2, in the sheet's order of the sides: a room is "left of" another, or "directly left-of" it, and
 -- likewise for the other three. The number of each, where it is not direct and where it is

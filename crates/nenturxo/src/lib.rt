@@ -5,9 +5,10 @@ ghost use Prim.Native.Nat.{_≤_};
 ghost use Rattle.record.specs.Answer.{LabelsIn};
 ghost use Rattle.labeltext.specs.Answer.{Tidied};
 ghost use Rattle.answers.specs.Answer.{slices, RecordIn};
+ghost use Rattle.slicing.specs.Answer.{TreeIn};
 ghost use Rattle.questions.specs.Answer.{questionAnswer};
 ghost use Rattle.entering.specs.Answer.{slices as roomSlices, RoomsIn};
-ghost use Rattle.nenturxo.specs.Code.{Coded, refusalCode, roomsCode, labelsCode, tidyCode, recordCode};
+ghost use Rattle.nenturxo.specs.Code.{Coded, refusalCode, roomsCode, labelsCode, tidyCode, recordCode, treeCode};
 ghost use Rattle.nenturxo.specs.Code.{relationNumber, relatedNumber, questionCode};
 ghost use Rattle.nenturxo.specs.Size.{AtMost97};
 use answers::RecordAnswer;
@@ -19,6 +20,7 @@ use labeltext::TidyAnswer;
 use questions::QuestionAnswer;
 use record::LabelsAnswer;
 use record::Refusal;
+use slicing::TreeAnswer;
 
 // A refusal's number, negated.
 fn refused(refusal: Refusal) -> i32
@@ -98,6 +100,19 @@ pub extern "C" fn nenturxo_record_in(
     match answers::record_in(record, labels, left, bottom, right, top) {
         RecordAnswer::Read(n) => n as i32,
         RecordAnswer::Refused(refusal) => refused(refusal),
+    }
+}
+
+// Tree: the length of the cutting tree of a slicing plan, written from the front of `tree`, or the refusal's number negated, and nothing
+// written.
+#[no_mangle]
+pub extern "C" fn nenturxo_tree(record: &[u8], tree: &mut [u8]) -> i32
+    ensures { λ r. ⌜ Coded treeCode r
+        (λ answer. TreeIn (now («record» .entry)) (now (tree .entry)) answer (now (tree .exit))) ⌝ }
+{
+    match trees::tree(record, tree) {
+        TreeAnswer::Wrote(size) => size as i32,
+        TreeAnswer::Refused(refusal) => refused(refusal),
     }
 }
 

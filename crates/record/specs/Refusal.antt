@@ -1,7 +1,7 @@
 -- The sheet's table of refusals: cause and number. "A number that any request adds joins document 01's table."
 use Prim.Native.Nat.{ℕ}
 use Rattle.record.specs.declared.Refusal.{Refusal}
-use Rattle.record.specs.declared.Refusal.the-variants.{Count, RoomSize, Overlap, Uncovered, FourMeet, LabelOutside, LabelTwice, BarredPattern, NoKind, ShortBody, BytesAfter, MissingRun, SeveralRuns, SpareBit, ShortOutput, PositionOutside, SamePosition, TextForm}
+use Rattle.record.specs.declared.Refusal.the-variants.{Count, RoomSize, Overlap, Uncovered, FourMeet, LabelOutside, LabelTwice, BarredPattern, NoKind, ShortBody, BytesAfter, MissingRun, SeveralRuns, SpareBit, ShortOutput, PositionOutside, SamePosition, TextForm, NotSlicing}
 
 abbrev pub numberOf : Refusal → ℕ
 -- room or label list of 0 or over 255 entries
@@ -40,3 +40,5 @@ numberOf PositionOutside = 16
 numberOf SamePosition = 17
 -- a text that breaks the form or is longer than 4,096 bytes (M-100)
 numberOf TextForm = 18
+-- a plan that is not slicing (M-103)
+numberOf NotSlicing = 19

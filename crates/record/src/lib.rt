@@ -39,6 +39,7 @@ pub enum Refusal {
     PositionOutside,
     SamePosition,
     TextForm,
+    NotSlicing,
 }
 
 impl Refusal {
@@ -65,6 +66,7 @@ impl Refusal {
             Refusal::PositionOutside => 16,
             Refusal::SamePosition => 17,
             Refusal::TextForm => 18,
+            Refusal::NotSlicing => 19,
         }
     }
 }

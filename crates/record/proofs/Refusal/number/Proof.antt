@@ -56,6 +56,9 @@ enum-told-17 c = search needs
 enum-told-18 : tie.Need-enum-told-18
 enum-told-18 c = search needs
 
+enum-told-19 : tie.Need-enum-told-19
+enum-told-19 c = search needs
+
 returns : tie.Need-returns
 returns c = rw (c .enum-told .given .1)
 
@@ -110,6 +113,9 @@ returns-17 c = rw (c .enum-told17 .given .1)
 returns-18 : tie.Need-returns-18
 returns-18 c = rw (c .enum-told18 .given .1)
 
+returns-19 : tie.Need-returns-19
+returns-19 c = rw (c .enum-told19 .given .1)
+
 pub number-spec : {M : Type 1} → statement M
 number-spec =
     tie.close
@@ -132,6 +138,7 @@ number-spec =
     enum-told-16
     enum-told-17
     enum-told-18
+    enum-told-19
     returns
     returns-2
     returns-3
@@ -149,4 +156,5 @@ number-spec =
     returns-15
     returns-16
     returns-17
-    returns-18)
+    returns-18
+    returns-19)

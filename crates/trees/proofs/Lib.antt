@@ -1,0 +1,5 @@
+-- Laws that the functions' proofs cite.
+pub mod Labels
+pub mod Putting
+pub mod Whole
+pub mod Read

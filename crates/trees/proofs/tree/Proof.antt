@@ -1,0 +1,146 @@
+-- `trees::tree` meets its contract: the record is read or refused, its tree is put into an array that every tree has room in, and copied
+-- where the slice has room.
+use mathlib.Core.Path.{_≡_, refl, sym, ap, subst, _∙_}
+use native.Mathlib.Omega.{arith}
+use lib.ListN.{length, replicate, take, length-take}
+use Rattle.reading.specs.Answer.{Given, Leaves}
+use Rattle.reading.specs.SameRefusal.{same-refusal}
+use Rattle.reading.specs.declared.Reading.{Reading}
+use Rattle.record.specs.Labels.{labelAt}
+use Rattle.record.specs.Read.{kindOf, labelsOf}
+use Rattle.slicing.specs.declared.TreeAnswer.the-variants.{Refused}
+use Rattle.trees.specs.Written.{TreeWritten}
+use Rattle.trees.proofs.Read.{as-many, plan-read, writes-plan, not-slicing-answer, short-answer, wrote-answer, copied}
+use borrow.Author.Needs.{needs}
+use Rattle.trees.proofs.tree.Statement.{statement}
+use Rattle.trees.proofs.tree.Tie as tie
+use Rattle.trees.proofs.tree.Reads as reads
+use Rattle.trees.proofs.tree.Lts as lts
+use Rattle.bytes.proofs.copy.Reads as copy-reads
+use Rattle.reading.proofs.read.Reads as read-reads
+use Rattle.trees.proofs.write_tree.Reads as write-tree-reads
+
+-- what was read
+given : (k : lts.After-known-told2 (read-reads.Asked, read-reads.Learnt, write-tree-reads.Asked, write-tree-reads.Learnt, copy-reads.Asked, copy-reads.Learnt) reads.Pre reads.Post)
+    → let last = k .before .before .before .before .before .before .read .last .1 .1 .1 in
+    Given (k .before .before .before .before .before .before .before .before .before .before .before .before .before .before .args .«record» .now) (k .before .n .given .0 .0) 0 255 (last .0) (last .1 .0) (replicate 255 0) (replicate 255 0) (replicate 255 0) (last .1 .1 .0) (last .1 .1 .1 .0) (last .1 .1 .1 .1 .0)
+given k =
+    let read = k .before .before .before .before .before .before .read in
+    let last = read .last .1 .1 .1 in
+    subst (λ (r : Reading). Leaves r (k .before .before .before .before .before .before .before .before .before .before .before .before .before .before .args .«record» .now) 0 255 (last .0) (last .1 .0) (replicate 255 0) (replicate 255 0) (replicate 255 0) (last .1 .1 .0) (last .1 .1 .1 .0) (last .1 .1 .1 .1 .0))
+    (k .before .n .given .1) (read .ensures .1)
+
+-- the tree that was put
+written : (k : lts.After-known-told3 (read-reads.Asked, read-reads.Learnt, write-tree-reads.Asked, write-tree-reads.Learnt, copy-reads.Asked, copy-reads.Learnt) reads.Pre reads.Post)
+    → let bytes = k .before .before .before .before .before .before .before .before .before .before .before .before .before .before .before .before .before .before .before .before .before .args .«record» .now in
+    TreeWritten (labelAt (labelsOf bytes)) (kindOf bytes) (k .before .size .given .0 .0) (k .before .before .before .before .write-tree .last .1 .0)
+written k =
+    let g = given (k .before .before .before .before .before .before .before) in
+    let call = k .before .before .before .before .write-tree in
+    writes-plan (g .kind) (g .readable) (g .some) (g .few) (g .few) (g .long (g .few) (g .some) .labels-are) (call .last .1 .0) (k .before .size .given .1) (call .ensures)
+
+-- it is as long as the array's front
+front-length : (k : lts.After-known-told3 (read-reads.Asked, read-reads.Learnt, write-tree-reads.Asked, write-tree-reads.Learnt, copy-reads.Asked, copy-reads.Learnt) reads.Pre reads.Post)
+    → k .before .size .given .0 .0 ≡ length (take (k .before .size .given .0 .0) (k .before .before .before .before .write-tree .last .1 .0))
+front-length k = let w = written k in w .size ∙ sym (ap length (w .front))
+
+slice-aggregate-read : tie.Need-slice-aggregate-read
+slice-aggregate-read c = search needs
+
+slice-aggregate-read-2 : tie.Need-slice-aggregate-read-2
+slice-aggregate-read-2 c = search needs
+
+slice-aggregate-read-3 : tie.Need-slice-aggregate-read-3
+slice-aggregate-read-3 c = search needs
+
+read-requires : tie.Need-read-requires
+read-requires c κs = search needs
+
+enum-known-refusal : tie.Need-enum-known-refusal
+enum-known-refusal c = search needs
+
+enum-known-n : tie.Need-enum-known-n
+enum-known-n c = search needs
+
+array-share-prefix-labels : tie.Need-array-share-prefix-labels
+array-share-prefix-labels c = let g = given c in omega (arith, g .few, g .long (g .few) (g .some) .labels-are .size)
+
+slice-aggregate-write-tree : tie.Need-slice-aggregate-write-tree
+slice-aggregate-write-tree c = let g = given (c .before) in sym (as-many (g .kind) (g .readable) (g .some) (g .few) (g .few) (g .long (g .few) (g .some) .labels-are))
+
+slice-aggregate-write-tree-2 : tie.Need-slice-aggregate-write-tree-2
+slice-aggregate-write-tree-2 c = search needs
+
+write-tree-requires : tie.Need-write-tree-requires
+write-tree-requires c κs = let g = given (c .before .before) in (plan-read (g .kind) (g .readable) (g .some) (g .few) (g .few) (g .long (g .few) (g .some) .labels-are), omega arith)
+
+enum-known-size : tie.Need-enum-known-size
+enum-known-size c = search needs
+
+enum-told : tie.Need-enum-told
+enum-told c = search needs
+
+returns : tie.Need-returns
+returns c =
+    let call = c .before .before .before in
+    let k = call .before .before .before in
+    let g = given k in
+    let shapes = writes-plan (g .kind) (g .readable) (g .some) (g .few) (g .few) (g .long (g .few) (g .some) .labels-are) (call .write-tree .last .1 .0) (c .enum-told .given .1) (call .write-tree .ensures) in
+    (record { answered = not-slicing-answer (g .kind) (g .readable) (length (k .before .before .before .before .before .before .before .before .before .before .before .before .before .before .args .tree .now)) shapes; left = refl }, tt)
+
+returns-2 : tie.Need-returns-2
+returns-2 c =
+    let k = c .before .before .before .before .before .before .before .before in
+    let g = given k in
+    (record { answered = short-answer (g .kind) (g .readable) (length (k .before .before .before .before .before .before .before .before .before .before .before .before .before .before .args .tree .now)) (written (c .before)) (c .if1 .taken); left = refl }, tt)
+
+array-share-prefix-put : tie.Need-array-share-prefix-put
+array-share-prefix-put c = let k = c .before in omega (arith, front-length k, length-take (k .before .size .given .0 .0) (k .before .before .before .before .write-tree .last .1 .0))
+
+slice-aggregate-copy : tie.Need-slice-aggregate-copy
+slice-aggregate-copy c = front-length (c .before .before)
+
+copy-requires : tie.Need-copy-requires
+copy-requires c κs = let e = c .before .before in omega (arith, front-length (e .before), e .if1 .left)
+
+returns-3 : tie.Need-returns-3
+returns-3 c =
+    let r = c .before .before .before .before .before .before in
+    (record { answered = same-refusal Refused (r .before .before .before .before .before .before .before .before .args .«record» .now) _ (c .before .refusal .given .0 .0) (sym (c .before .refusal .given .1) ∙ r .read .ensures .0); left = refl }, tt)
+
+same-length : tie.Need-same-length
+same-length c = search needs
+
+returns-4 : tie.Need-returns-4
+returns-4 c =
+    let e = c .before .before .before .before .before in
+    let w = written (e .before) in
+    let k = e .before .before .before .before .before .before .before .before in
+    let g = given k in
+    let a = k .before .before .before .before .before .before .before .before .before .before .before .before .before .before .args in
+    (record { answered = wrote-answer (g .kind) (g .readable) (length (a .tree .now)) w (e .if1 .left); left = c .before .before .copy .ensures .1 ∙ copied (take (e .before .before .size .given .0 .0) (e .before .before .before .before .before .write-tree .last .1 .0)) (a .tree .now) (front-length (e .before)) (w .front) }, omega (arith, w .small, g .kind, g .few))
+
+pub tree-spec : {M : Type 1} → statement M
+tree-spec =
+    tie.close
+    (tie.spec
+    slice-aggregate-read
+    slice-aggregate-read-2
+    slice-aggregate-read-3
+    read-requires
+    enum-known-refusal
+    enum-known-n
+    array-share-prefix-labels
+    slice-aggregate-write-tree
+    slice-aggregate-write-tree-2
+    write-tree-requires
+    enum-known-size
+    enum-told
+    returns
+    returns-2
+    array-share-prefix-put
+    slice-aggregate-copy
+    copy-requires
+    returns-3
+    same-length
+    returns-4)

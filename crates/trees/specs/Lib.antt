@@ -1,0 +1,3 @@
+-- What the contracts of the tree writer's functions cite.
+pub mod Block
+pub mod Written

@@ -1,0 +1,28 @@
+-- What the writer leaves for a whole plan.
+use mathlib.Core.List.{List}
+use mathlib.Core.Path.{_≡_}
+use Prim.Native.Nat.{ℕ, _+_, _*_, _≤_}
+use lib.ListN.{length, take}
+use Rattle.record.specs.Labels.{labelAt, EachOnce}
+use Rattle.slicing.specs.Slicing.{Shaped, Slicing}
+use Rattle.slicing.specs.Tree.{bytesOf}
+use Rattle.slicing.specs.Cutting.{cuttingTree}
+use Rattle.trees.specs.declared.TreesPut.{TreesPut}
+use Rattle.trees.specs.declared.TreesPut.the-variants as put
+
+-- the labels of a plan, by position
+pub record Plan (labels : List ℕ) : Type 0 where
+  pub once : EachOnce (labelAt labels) (length labels)
+  pub some : 1 ≤ length labels
+  pub few : length labels ≤ 255
+
+-- the plan is slicing, and its tree stands at the front
+pub record TreeWritten (f : ℕ → ℕ) (n end : ℕ) (after : List ℕ) : Type 0 where
+  pub slicing : Slicing f n
+  pub size : end ≡ length (bytesOf (cuttingTree f n))
+  pub small : end + 2 ≤ 3 * n
+  pub front : take end after ≡ bytesOf (cuttingTree f n)
+
+abbrev pub Writes : TreesPut → (ℕ → ℕ) → (n : ℕ) → (after : List ℕ) → Type 0
+Writes (put.Put end total) f n after = TreeWritten f n end after
+Writes put.NotSlicing f n after = Shaped f n
