@@ -53,13 +53,13 @@ module _ (f : ℕ → ℕ) (cut : Cut) where
   )
 
   -- and the blocks of all rooms are blocks before a line and blocks after it
-  pub record Halves (s m e : ℕ) : Type 0 where
-    pub one : Trees
-    pub other : Trees
-    pub before : Blocks f cut one s m
-    pub after : Blocks f cut other m e
+  record Halves (s m e : ℕ) : Type 0 where
+    one : Trees
+    other : Trees
+    before : Blocks f cut one s m
+    after : Blocks f cut other m e
 
-  pub blocks-halved : (children : Trees) (s m e : ℕ) → s < m → m < e → Parts f cut s m e → Blocks f cut children s e → Halves s m e
+  blocks-halved : (children : Trees) (s m e : ℕ) → s < m → m < e → Parts f cut s m e → Blocks f cut children s e → Halves s m e
   blocks-halved none s m e some more line q = absurd (omega arith)
   blocks-halved (child then rest) s m e some more line (k, from, to, (alternates, tree, parts, blocks)) = elim (eq-or-ne k m) [
     | inl q ↦ record {
@@ -82,15 +82,31 @@ module _ (f : ℕ → ℕ) (cut : Cut) where
     ]
   ]
 
+  -- the blocks from a line on, and those before it, where the line may also stand before all rooms, or after them
+  pub blocks-from : (children : Trees) (s m e : ℕ) → s ≤ m → m < e → Parts f cut s m e → Blocks f cut children s e
+      → (rest : Trees) × Blocks f cut rest m e
+  blocks-from children s m e from more line blocks = elim (eq-or-ne s m) [
+    | inl q ↦ (children, subst (λ (x : ℕ). Blocks f cut children x e) q blocks)
+    | inr ne ↦ let h = blocks-halved children s m e (omega arith) more line blocks in (h .other, h .after)
+  ]
+
+  pub blocks-upto : (children : Trees) (s m e : ℕ) → s < m → m ≤ e → Parts f cut s m e → Blocks f cut children s e
+      → (first : Trees) × Blocks f cut first s m
+  blocks-upto children s m e some within line blocks = elim (eq-or-ne m e) [
+    | inl q ↦ (children, subst (λ (x : ℕ). Blocks f cut children s x) (sym q) blocks)
+    | inr ne ↦ let h = blocks-halved children s m e some (omega arith) line blocks in (h .one, h .before)
+  ]
+
   -- ---- one block, or several
   -- a room is a block of its own
   pub leaf-block : {s e : ℕ} → suc s ≡ e → Blocks f cut (leaf then none) s e
   leaf-block {e = e} q = (e, omega arith, omega arith, (tt, sym q, λ i a b j c d. absurd (omega arith), refl))
 
   -- and so are rooms that are cut the other way
-  pub node-block : (children : Trees) (s e : ℕ) → s < e → 2 ≤ count children → Blocks f (opposite cut) children s e
-      → Blocks f cut (node (opposite cut) children then none) s e
-  node-block children s e some two blocks = (e, some, omega arith, (refl, (two, blocks), λ i a b j c d. absurd (omega arith), refl))
+  pub node-block : (lines : Cut) (children : Trees) (s e : ℕ) → lines ≡ opposite cut → s < e → 2 ≤ count children
+      → Blocks f lines children s e → Blocks f cut (node lines children then none) s e
+  node-block lines children s e turned some two blocks =
+      (e, some, omega arith, (turned, (two, blocks), λ i a b j c d. absurd (omega arith), refl))
 
   -- several blocks have a line between them
   pub line-between : (children : Trees) (s e : ℕ) → 2 ≤ count children → Blocks f cut children s e
@@ -126,7 +142,7 @@ module _ (f : ℕ → ℕ) (cut : Cut) where
       → Blocks f cut (tree then none) s e
   tree-is-block leaf s e last some q = leaf-block (sym q)
   tree-is-block (node lines children) s e last some (two, blocks) =
-      (e, some, omega arith, (cut-other-way lines children s e last two blocks, (two, blocks), λ i a b j c d. absurd (omega arith), refl))
+      node-block lines children s e (cut-other-way lines children s e last two blocks) some two blocks
 
   -- which is cut the other way, if at all
   pub one-block : (children : Trees) (s e : ℕ) → suc s < e → ¬ Before cut (f s) (f (e - 1)) → Blocks f cut children s e

@@ -16,6 +16,10 @@ pub before-trans : (cut : Cut) (a b c : ℕ) → Before cut a b → Before cut b
 before-trans Vertical a b c h k = omega arith
 before-trans Horizontal a b c h k = omega arith
 
+pub before-itself : (cut : Cut) (a : ℕ) → ¬ Before cut a a
+before-itself Vertical a h = omega arith
+before-itself Horizontal a h = omega arith
+
 -- not both left of it and below it
 pub before-one-way : (cut : Cut) (a b : ℕ) → Before cut a b → ¬ Before (opposite cut) a b
 before-one-way Vertical a b h k = omega arith

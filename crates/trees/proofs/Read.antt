@@ -1,6 +1,6 @@
 -- The plan of a record that is read: its labels are those of a plan, and what is written of them is the record's tree.
 use mathlib.Core.List.{List, _++_}
-use mathlib.Core.Path.{_≡_, sym, ap, subst, subst₂, _∙_}
+use mathlib.Core.Path.{_≡_, sym, ap, subst, _∙_}
 use Prim.Native.Nat.{ℕ, suc, _≤_, _<_}
 use native.Mathlib.Omega.{arith}
 use lib.ListN.{length, take, drop}
@@ -43,11 +43,11 @@ module _ {bytes : List ℕ} {n : ℕ} (kind : n ≡ kindOf bytes) (readable : Re
     }
 
     -- what is written of them
-    pub writes-plan : (after : List ℕ) {result r : TreesPut} → result ≡ r → Writes result (labelAt (take n now)) (length (take n now)) after
+    pub writes-plan : {r : TreesPut} {after : List ℕ} → Writes r (labelAt (take n now)) (length (take n now)) after
         → Writes r (labelAt (labelsOf bytes)) (kindOf bytes) after
-    writes-plan after {r = r} q h =
+    writes-plan {r} {after} h =
         subst (λ (m : ℕ). Writes r (labelAt (labelsOf bytes)) m after) (one .size)
-        (subst₂ (λ (x : TreesPut) (l : List ℕ). Writes x (labelAt l) (length l) after) q labels-are h)
+        (subst (λ (l : List ℕ). Writes r (labelAt l) (length l) after) labels-are h)
 
   -- ---- the answers
   module _ (capacity : ℕ) where

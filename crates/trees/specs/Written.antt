@@ -8,7 +8,6 @@ use Rattle.slicing.specs.Slicing.{Shaped, Slicing}
 use Rattle.slicing.specs.Tree.{bytesOf}
 use Rattle.slicing.specs.Cutting.{cuttingTree}
 use Rattle.trees.specs.declared.TreesPut.{TreesPut}
-use Rattle.trees.specs.declared.TreesPut.the-variants as put
 
 -- the labels of a plan, by position
 pub record Plan (labels : List ℕ) : Type 0 where
@@ -23,6 +22,7 @@ pub record TreeWritten (f : ℕ → ℕ) (n end : ℕ) (after : List ℕ) : Type
   pub small : end + 2 ≤ 3 * n
   pub front : take end after ≡ bytesOf (cuttingTree f n)
 
-abbrev pub Writes : TreesPut → (ℕ → ℕ) → (n : ℕ) → (after : List ℕ) → Type 0
-Writes (put.Put end total) f n after = TreeWritten f n end after
-Writes put.NotSlicing f n after = Shaped f n
+-- it is not slicing, or its tree stands there, as the end tells
+pub record Writes (r : TreesPut) (f : ℕ → ℕ) (n : ℕ) (after : List ℕ) : Type 0 where
+  pub missing : r .end ≡ 0 → Shaped f n
+  pub stand : ¬ (r .end ≡ 0) → TreeWritten f n (r .end) after

@@ -8,7 +8,7 @@ ghost use Rattle.slicing.specs.Cuts.{opposite as oppositeOf, Before};
 ghost use Rattle.slicing.specs.Tree.{kindOfCut};
 ghost use Rattle.slicing.specs.Interval.{placeOf, lowestOfFirst, lowestOfRest};
 ghost use Rattle.slicing.specs.Answer.{TreeIn, Few};
-ghost use Rattle.trees.specs.Block.{BlockOf, Several, Fits, FindsLine, Puts};
+ghost use Rattle.trees.specs.Block.{BlockOf, PartFits, BlocksFit, FindsLine, EndsPart, Puts};
 ghost use Rattle.trees.specs.Written.{Plan, Writes};
 use reading::Reading;
 use record::Refusal;
@@ -21,10 +21,10 @@ enum Line {
     Nowhere,
 }
 
-// Where the trees that were put end, and how many children their node has so far; or the rooms have no tree.
-enum TreesPut {
-    Put(usize, usize),
-    NotSlicing,
+// Where the trees that were put end, and how many they are. The end is 0 where the rooms have no tree.
+struct TreesPut {
+    end: usize,
+    number: usize,
 }
 
 // The larger of two numbers.
@@ -136,8 +136,19 @@ fn lowest_after(cut: Cut, from: usize, line: usize, lowest: usize) -> usize
     }
 }
 
-// Puts the trees of the blocks into which the lines of a cut part some rooms, as children of one node, which has `number` before them.
-// The first and the last label tell whether there are lines of this cut.
+// Where the first part ends of rooms that are put part by part: before a line; or, where the first and the last label tell that they are
+// one block, after the last room.
+fn part_end(labels: &[u8], from: usize, to: usize, lowest: usize, cut: Cut) -> Line
+    requires { ⌜ BlockOf (now labels) from to lowest ⌝ }
+    ensures { λ r. ⌜ EndsPart r (now (labels .entry)) cut from to ⌝ }
+{
+    if stands_before(cut, labels[from - 1], labels[to - 2]) {
+        return find_line(labels, from, to, lowest, cut);
+    }
+    Line::Before(to)
+}
+
+// Puts the trees of the blocks into which the lines of a cut part some rooms: a leaf, a node that is cut the other way, or several.
 fn put_part(
     labels: &[u8],
     from: usize,
@@ -146,29 +157,33 @@ fn put_part(
     cut: Cut,
     tree: &mut [u8],
     at: usize,
-    number: usize,
 ) -> TreesPut
-    requires { ⌜ BlockOf (now labels) from to lowest × Fits 2 from to at number (length (now tree)) ⌝ }
-    ensures { λ r. ⌜ Puts r (labelAt (now (labels .entry))) cut from to number (now (tree .entry)) at (now (tree .exit)) ⌝ }
+    requires { ⌜ BlockOf (now labels) from to lowest × PartFits from to at (length (now tree)) ⌝ }
+    ensures { λ r. ⌜ Puts r (labelAt (now (labels .entry))) cut from to (now (tree .entry)) at (now (tree .exit)) ⌝ }
 {
     if from + 1 == to {
         tree[at] = 1;
-        return TreesPut::Put(at + 1, number + 1);
+        return TreesPut {
+            end: at + 1,
+            number: 1,
+        };
     }
     if stands_before(cut, labels[from - 1], labels[to - 2]) {
-        return put_blocks(labels, from, to, lowest, cut, tree, at, number);
+        return put_blocks(labels, from, to, lowest, cut, tree, at);
     }
     let lines = opposite(cut);
-    let TreesPut::Put(end, children) = put_blocks(labels, from, to, lowest, lines, tree, at + 2, 0)
-    else {
-        return TreesPut::NotSlicing;
-    };
+    let children = put_blocks(labels, from, to, lowest, lines, tree, at + 2);
+    let end = children.end;
+    let number = children.number;
+    if end == 0 {
+        return children;
+    }
     tree[at] = kind(lines);
-    tree[at + 1] = children as u8;
-    TreesPut::Put(end, number + 1)
+    tree[at + 1] = number as u8;
+    TreesPut { end, number: 1 }
 }
 
-// The same where the rooms are several blocks or have no tree: those before a line, and then those after it.
+// The same, part by part from the first room on. A part has fewer rooms than these, but where they are one block.
 fn put_blocks(
     labels: &[u8],
     from: usize,
@@ -177,21 +192,31 @@ fn put_blocks(
     cut: Cut,
     tree: &mut [u8],
     at: usize,
-    number: usize,
 ) -> TreesPut
-    requires { ⌜ BlockOf (now labels) from to lowest × Several (labelAt (now labels)) cut from to
-        × Fits 4 from to at number (length (now tree)) ⌝ }
-    ensures { λ r. ⌜ Puts r (labelAt (now (labels .entry))) cut from to number (now (tree .entry)) at (now (tree .exit)) ⌝ }
+    requires { ⌜ BlockOf (now labels) from to lowest × BlocksFit (now labels) cut from to at (length (now tree)) ⌝ }
+    ensures { λ r. ⌜ Puts r (labelAt (now (labels .entry))) cut from to (now (tree .entry)) at (now (tree .exit)) ⌝ }
 {
-    let Line::Before(line) = find_line(labels, from, to, lowest, cut) else {
-        return TreesPut::NotSlicing;
-    };
-    let low = lowest_before(cut, line, to, lowest);
-    let high = lowest_after(cut, from, line, lowest);
-    let TreesPut::Put(next, first) = put_part(labels, from, line, low, cut, tree, at, number) else {
-        return TreesPut::NotSlicing;
-    };
-    put_part(labels, line, to, high, cut, tree, next, first)
+    let mut start = from;
+    let mut low = lowest;
+    let mut next = at;
+    let mut number = 0;
+    while start < to {
+        let Line::Before(end) = part_end(labels, start, to, low, cut) else {
+            return TreesPut { end: 0, number: 0 };
+        };
+        let first = lowest_before(cut, end, to, low);
+        let part = put_part(labels, start, end, first, cut, tree, next);
+        let part_next = part.end;
+        let part_number = part.number;
+        if part_next == 0 {
+            return part;
+        }
+        next = part_next;
+        number += part_number;
+        low = lowest_after(cut, start, end, low);
+        start = end;
+    }
+    TreesPut { end: next, number }
 }
 
 // A cut of which a plan is one block, by its first and its last label: where the first is smaller, no horizontal line can part it.
@@ -211,7 +236,7 @@ fn write_tree(labels: &[u8], tree: &mut [u8]) -> TreesPut
 {
     let n = labels.len();
     let cut = whole_cut(labels[0], labels[n - 1]);
-    put_part(labels, 1, n + 1, 1, cut, tree, 0, 0)
+    put_blocks(labels, 1, n + 1, 1, cut, tree, 0)
 }
 
 // The cutting tree of a record: its bytes from the front of the tree slice, and their number; or the refusal, and the slice as it was.
@@ -237,9 +262,11 @@ pub fn tree(record: &[u8], tree: &mut [u8]) -> TreeAnswer
         Reading::Refused(refusal) => TreeAnswer::Refused(refusal),
         Reading::Read(n) => {
             let mut put = [0u8; 763];
-            let TreesPut::Put(size, _) = write_tree(&labels[..n], &mut put) else {
+            let written = write_tree(&labels[..n], &mut put);
+            let size = written.end;
+            if size == 0 {
                 return TreeAnswer::Refused(Refusal::NotSlicing);
-            };
+            }
             if tree.len() < size {
                 return TreeAnswer::Refused(Refusal::ShortOutput);
             }

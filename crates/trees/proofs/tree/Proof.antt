@@ -9,7 +9,7 @@ use Rattle.reading.specs.declared.Reading.{Reading}
 use Rattle.record.specs.Labels.{labelAt}
 use Rattle.record.specs.Read.{kindOf, labelsOf}
 use Rattle.slicing.specs.declared.TreeAnswer.the-variants.{Refused}
-use Rattle.trees.specs.Written.{TreeWritten}
+use Rattle.trees.specs.Written.{TreeWritten, Writes}
 use Rattle.trees.proofs.Read.{as-many, plan-read, writes-plan, not-slicing-answer, short-answer, wrote-answer, copied}
 use borrow.Author.Needs.{needs}
 use Rattle.trees.proofs.tree.Statement.{statement}
@@ -30,19 +30,25 @@ given k =
     subst (λ (r : Reading). Leaves r (k .before .before .before .before .before .before .before .before .before .before .before .before .before .before .args .«record» .now) 0 255 (last .0) (last .1 .0) (replicate 255 0) (replicate 255 0) (replicate 255 0) (last .1 .1 .0) (last .1 .1 .1 .0) (last .1 .1 .1 .1 .0))
     (k .before .n .given .1) (read .ensures .1)
 
--- the tree that was put
-written : (k : lts.After-known-told3 (read-reads.Asked, read-reads.Learnt, write-tree-reads.Asked, write-tree-reads.Learnt, copy-reads.Asked, copy-reads.Learnt) reads.Pre reads.Post)
-    → let bytes = k .before .before .before .before .before .before .before .before .before .before .before .before .before .before .before .before .before .before .before .before .before .args .«record» .now in
-    TreeWritten (labelAt (labelsOf bytes)) (kindOf bytes) (k .before .size .given .0 .0) (k .before .before .before .before .write-tree .last .1 .0)
-written k =
-    let g = given (k .before .before .before .before .before .before .before) in
-    let call = k .before .before .before .before .write-tree in
-    writes-plan (g .kind) (g .readable) (g .some) (g .few) (g .few) (g .long (g .few) (g .some) .labels-are) (call .last .1 .0) (k .before .size .given .1) (call .ensures)
+-- what was written of its plan
+plan-written : (call : lts.After-write-tree (read-reads.Asked, read-reads.Learnt, write-tree-reads.Asked, write-tree-reads.Learnt, copy-reads.Asked, copy-reads.Learnt) reads.Pre reads.Post)
+    → let bytes = call .before .before .before .before .before .before .before .before .before .before .before .before .before .before .before .before .before .args .«record» .now in
+    Writes (call .write-tree .result) (labelAt (labelsOf bytes)) (kindOf bytes) (call .write-tree .last .1 .0)
+plan-written call =
+    let g = given (call .before .before .before) in
+    writes-plan (g .kind) (g .readable) (g .some) (g .few) (g .few) (g .long (g .few) (g .some) .labels-are) (call .write-tree .ensures)
+
+written : (e : lts.Else1 (read-reads.Asked, read-reads.Learnt, write-tree-reads.Asked, write-tree-reads.Learnt, copy-reads.Asked, copy-reads.Learnt) reads.Pre reads.Post)
+    → let call = e .before .before in
+    let bytes = call .before .before .before .before .before .before .before .before .before .before .before .before .before .before .before .before .before .args .«record» .now in
+    TreeWritten (labelAt (labelsOf bytes)) (kindOf bytes) (call .write-tree .result .end) (call .write-tree .last .1 .0)
+written e = plan-written (e .before .before) .stand (e .if1 .left)
 
 -- it is as long as the array's front
-front-length : (k : lts.After-known-told3 (read-reads.Asked, read-reads.Learnt, write-tree-reads.Asked, write-tree-reads.Learnt, copy-reads.Asked, copy-reads.Learnt) reads.Pre reads.Post)
-    → k .before .size .given .0 .0 ≡ length (take (k .before .size .given .0 .0) (k .before .before .before .before .write-tree .last .1 .0))
-front-length k = let w = written k in w .size ∙ sym (ap length (w .front))
+front-length : (e : lts.Else1 (read-reads.Asked, read-reads.Learnt, write-tree-reads.Asked, write-tree-reads.Learnt, copy-reads.Asked, copy-reads.Learnt) reads.Pre reads.Post)
+    → let call = (e .before .before) .write-tree in
+    call .result .end ≡ length (take (call .result .end) (call .last .1 .0))
+front-length e = let w = written e in w .size ∙ sym (ap length (w .front))
 
 slice-aggregate-read : tie.Need-slice-aggregate-read
 slice-aggregate-read c = search needs
@@ -74,34 +80,26 @@ slice-aggregate-write-tree-2 c = search needs
 write-tree-requires : tie.Need-write-tree-requires
 write-tree-requires c κs = let g = given (c .before .before) in (plan-read (g .kind) (g .readable) (g .some) (g .few) (g .few) (g .long (g .few) (g .some) .labels-are), omega arith)
 
-enum-known-size : tie.Need-enum-known-size
-enum-known-size c = search needs
-
-enum-told : tie.Need-enum-told
-enum-told c = search needs
-
 returns : tie.Need-returns
 returns c =
-    let call = c .before .before .before in
-    let k = call .before .before .before in
-    let g = given k in
-    let shapes = writes-plan (g .kind) (g .readable) (g .some) (g .few) (g .few) (g .long (g .few) (g .some) .labels-are) (call .write-tree .last .1 .0) (c .enum-told .given .1) (call .write-tree .ensures) in
-    (record { answered = not-slicing-answer (g .kind) (g .readable) (length (k .before .before .before .before .before .before .before .before .before .before .before .before .before .before .args .tree .now)) shapes; left = refl }, tt)
+    let call = c .before .before in
+    let g = given (call .before .before .before) in
+    (record { answered = not-slicing-answer (g .kind) (g .readable) (length (call .before .before .before .before .before .before .before .before .before .before .before .before .before .before .before .before .before .args .tree .now)) (plan-written call .missing (c .if1 .taken)); left = refl }, tt)
 
 returns-2 : tie.Need-returns-2
 returns-2 c =
-    let k = c .before .before .before .before .before .before .before .before in
-    let g = given k in
-    (record { answered = short-answer (g .kind) (g .readable) (length (k .before .before .before .before .before .before .before .before .before .before .before .before .before .before .args .tree .now)) (written (c .before)) (c .if1 .taken); left = refl }, tt)
+    let e = c .before in
+    let g = given (e .before .before .before .before .before) in
+    (record { answered = short-answer (g .kind) (g .readable) (length (e .before .before .before .before .before .before .before .before .before .before .before .before .before .before .before .before .before .before .before .args .tree .now)) (written e) (c .if2 .taken); left = refl }, tt)
 
 array-share-prefix-put : tie.Need-array-share-prefix-put
-array-share-prefix-put c = let k = c .before in omega (arith, front-length k, length-take (k .before .size .given .0 .0) (k .before .before .before .before .write-tree .last .1 .0))
+array-share-prefix-put c = let call = c .before .before .before .write-tree in omega (arith, front-length (c .before), length-take (call .result .end) (call .last .1 .0))
 
 slice-aggregate-copy : tie.Need-slice-aggregate-copy
 slice-aggregate-copy c = front-length (c .before .before)
 
 copy-requires : tie.Need-copy-requires
-copy-requires c κs = let e = c .before .before in omega (arith, front-length (e .before), e .if1 .left)
+copy-requires c κs = let e = c .before .before in omega (arith, front-length (e .before), e .if2 .left)
 
 returns-3 : tie.Need-returns-3
 returns-3 c =
@@ -113,12 +111,13 @@ same-length c = search needs
 
 returns-4 : tie.Need-returns-4
 returns-4 c =
-    let e = c .before .before .before .before .before in
-    let w = written (e .before) in
-    let k = e .before .before .before .before .before .before .before .before in
-    let g = given k in
-    let a = k .before .before .before .before .before .before .before .before .before .before .before .before .before .before .args in
-    (record { answered = wrote-answer (g .kind) (g .readable) (length (a .tree .now)) w (e .if1 .left); left = c .before .before .copy .ensures .1 ∙ copied (take (e .before .before .size .given .0 .0) (e .before .before .before .before .before .write-tree .last .1 .0)) (a .tree .now) (front-length (e .before)) (w .front) }, omega (arith, w .small, g .kind, g .few))
+    let fits = c .before .before .before .before .before in
+    let e = fits .before in
+    let call = (e .before .before) .write-tree in
+    let w = written e in
+    let g = given (e .before .before .before .before .before) in
+    let a = e .before .before .before .before .before .before .before .before .before .before .before .before .before .before .before .before .before .before .before .args in
+    (record { answered = wrote-answer (g .kind) (g .readable) (length (a .tree .now)) w (fits .if2 .left); left = c .before .before .copy .ensures .1 ∙ copied (take (call .result .end) (call .last .1 .0)) (a .tree .now) (front-length e) (w .front) }, omega (arith, w .small, g .kind, g .few))
 
 pub tree-spec : {M : Type 1} → statement M
 tree-spec =
@@ -134,8 +133,6 @@ tree-spec =
     slice-aggregate-write-tree
     slice-aggregate-write-tree-2
     write-tree-requires
-    enum-known-size
-    enum-told
     returns
     returns-2
     array-share-prefix-put
