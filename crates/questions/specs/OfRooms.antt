@@ -8,25 +8,19 @@ use lib.ListN.{length}
 use Rattle.finite.specs.Decide.{holds, holds-tells}
 use Rattle.record.specs.Read.{kindOf, labelsOf}
 use Rattle.record.specs.Checked.{Readable}
-use Rattle.record.specs.Demand2Read.{readable-only-list, record-of→labels-of}
+use Rattle.record.specs.Demand2Read.{readable-only-list}
 use Rattle.drawing.specs.declared.Room.{Room}
 use Rattle.rooms.specs.Causes.{AcceptedRooms}
 use Rattle.rooms.specs.LabelList.{positionOf, labelList, recordOfRooms}
 use Rattle.rooms.specs.Ranks.{OneToN}
 use Rattle.rooms.specs.LabelFacts.{positions-are-1-to-n}
-use Rattle.rooms.specs.Demand3.{BaxterOf, rooms-give-baxter, record-of-rooms-readable}
+use Rattle.rooms.specs.Demand3.{BaxterOf, rooms-give-baxter, record-of-rooms-readable, label-list-back}
 use Rattle.contacts.specs.Direct.{relationOf, dec-positions-direct}
 use Rattle.contacts.specs.DecideTouches.{dec-positions-touch}
 use Rattle.questions.specs.Answer.{Outside, questionAnswer}
 use Rattle.questions.specs.Demand1.{related, demand1-question-answer}
 use Rattle.questions.specs.declared.QuestionAnswer.{QuestionAnswer}
 use Rattle.questions.specs.declared.QuestionAnswer.the-variants.{Related}
-
--- the record of an accepted room list gives its label list back
-label-list-back : (rooms : List Room) → AcceptedRooms rooms → labelList rooms ≡ labelsOf (recordOfRooms rooms)
-unfolding recordOfRooms
-label-list-back rooms accepted = record-of→labels-of (recordOfRooms rooms) (record-of-rooms-readable rooms accepted) (labelList rooms)
-    (rooms-give-baxter rooms accepted .baxter) refl
 
 -- what is answered for two positions of a label list
 abbrev pub answerFor : (labels : List ℕ) (first second : ℕ) → QuestionAnswer

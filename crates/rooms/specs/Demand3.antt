@@ -1,6 +1,6 @@
 -- Demand 3: "Any two accepted room lists get the same record, byte for byte, exactly when the two floorplans are equivalent. The
 -- reading of any bytes at all is accepted exactly when they are the record of some accepted room list."
-use mathlib.Core.Path.{_≡_, ap, subst, _∙_}
+use mathlib.Core.Path.{_≡_, refl, ap, subst, _∙_}
 use mathlib.Core.Logic.{_≢_, inl, inr, _↔_}
 use mathlib.Core.List.{List}
 use Prim.Native.Nat.{ℕ, _≤_, _<_}
@@ -16,7 +16,7 @@ use Rattle.record.specs.Record.{recordOf}
 use Rattle.record.specs.Read.{kindOf, labelsOf}
 use Rattle.record.specs.Checked.{Readable}
 use Rattle.record.specs.Demand2.{demand2-same-record}
-use Rattle.record.specs.Demand2Read.{demand2-read-only-list, demand2-written-read}
+use Rattle.record.specs.Demand2Read.{record-of→labels-of, demand2-read-only-list, demand2-written-read}
 use Rattle.drawing.specs.declared.Room.{Room}
 use Rattle.drawing.specs.Drawing.{drawingOf}
 use Rattle.rooms.specs.Outline.{SixteenBits}
@@ -71,6 +71,12 @@ dec-equivalent rooms others accepted accepted-others =
 pub record-of-rooms-readable : (rooms : List Room) → AcceptedRooms rooms → Readable (recordOfRooms rooms)
 unfolding recordOfRooms
 record-of-rooms-readable rooms accepted = let b = rooms-give-baxter rooms accepted in demand2-written-read (labelList rooms) (omega (arith, b .some, b .size)) (b .baxter)
+
+-- and gives its label list back
+pub label-list-back : (rooms : List Room) → AcceptedRooms rooms → labelList rooms ≡ labelsOf (recordOfRooms rooms)
+unfolding recordOfRooms
+label-list-back rooms accepted = record-of→labels-of (recordOfRooms rooms) (record-of-rooms-readable rooms accepted) (labelList rooms)
+    (rooms-give-baxter rooms accepted .baxter) refl
 
 -- "The reading of any bytes at all is accepted exactly when they are the record of some accepted room list": the grid drawing of
 -- its labels is one

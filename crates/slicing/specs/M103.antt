@@ -14,10 +14,11 @@ use Rattle.record.specs.Barred.{Baxter}
 use Rattle.record.specs.Read.{kindOf, labelsOf}
 use Rattle.record.specs.Record.{recordOf}
 use Rattle.record.specs.Checked.{Readable}
-use Rattle.record.specs.Demand2Read.{Reads, demand2-read-only-list}
+use Rattle.record.specs.Demand2Read.{Reads, readable-only-list, demand2-read-only-list}
 use Rattle.drawing.specs.declared.Room.{Room}
 use Rattle.rooms.specs.Causes.{AcceptedRooms}
-use Rattle.rooms.specs.LabelList.{labelList}
+use Rattle.rooms.specs.LabelList.{labelList, recordOfRooms}
+use Rattle.rooms.specs.Demand3.{BaxterOf, rooms-give-baxter, record-of-rooms-readable, label-list-back}
 use Rattle.slicing.specs.Slicing.{Slicing}
 use Rattle.slicing.specs.Tree.{Tree, TreeBy, CuttingTree, bytesOf}
 use Rattle.slicing.specs.Cutting.{cuttingTree}
@@ -108,6 +109,30 @@ module _ {bytes : List ℕ} (r : SlicingRecord bytes) where
   -- its tree is the cutting tree of its labels
   pub m103-tree-of-record : CuttingTree (labelAt (labelsOf bytes)) (kindOf bytes) (cuttingTree (labelAt (labelsOf bytes)) (kindOf bytes))
   m103-tree-of-record = cutting-tree (labelAt (labelsOf bytes)) (kindOf bytes) some once (r .slicing)
+
+-- of the record of an accepted room list it is the tree of these rooms
+pub m103-tree-of-rooms-by-record : (rooms : List Room) → AcceptedRooms rooms → ¬ NotSlicing (recordOfRooms rooms)
+    → TreeBy (RoomsStand rooms) (cuttingTree (labelAt (labelsOf (recordOfRooms rooms))) (kindOf (recordOfRooms rooms))) 1
+    (suc (length rooms))
+m103-tree-of-rooms-by-record rooms accepted slicing =
+    m103-tree-of-rooms rooms accepted (cuttingTree (labelAt (labelsOf bytes)) (kindOf bytes)) .1
+    (subst₂ (λ (labels : List ℕ) (n : ℕ). CuttingTree (labelAt labels) n (cuttingTree (labelAt (labelsOf bytes)) (kindOf bytes)))
+    (sym labels) size (cutting-tree (labelAt (labelsOf bytes)) (kindOf bytes) (omega (arith, b .some, size)) once slicing))
+  where
+    bytes : List ℕ
+    bytes = recordOfRooms rooms
+
+    b : BaxterOf rooms
+    b = rooms-give-baxter rooms accepted
+
+    labels : labelList rooms ≡ labelsOf bytes
+    labels = label-list-back rooms accepted
+
+    size : kindOf bytes ≡ length rooms
+    size = sym (readable-only-list bytes (record-of-rooms-readable rooms accepted) .size) ∙ ap length (sym labels) ∙ b .size
+
+    once : EachOnce (labelAt (labelsOf bytes)) (kindOf bytes)
+    once = subst₂ (λ (list : List ℕ) (n : ℕ). EachOnce (labelAt list) n) labels (b .size ∙ sym size) (b .baxter .each-once)
 
 -- ---- two slicing records
 module _ {bytes other : List ℕ} (r : SlicingRecord bytes) (t : SlicingRecord other) where
