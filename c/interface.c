@@ -322,12 +322,112 @@ static void test_tidy(void) {
     test_long_texts();
 }
 
+/* ---- Tree */
+
+static int32_t tree(const uint8_t *record, size_t length, const uint8_t *expected, size_t bytes) {
+    uint8_t cut[NENTURXO_TREE_CAPACITY];
+    int32_t code;
+    memset(cut, UNTOUCHED, sizeof cut);
+    code = nenturxo_tree(record, length, cut, sizeof cut);
+    CHECK(memcmp(cut, expected, bytes) == 0);
+    CHECK(all_untouched(cut + bytes, sizeof cut - bytes));
+    return code;
+}
+
+/* The record has this tree. One byte less is too short. */
+static void cuts(const uint8_t *record, size_t length, const uint8_t *expected, size_t needed) {
+    uint8_t cut[NENTURXO_TREE_CAPACITY];
+
+    CHECK(tree(record, length, expected, needed) == (int32_t)needed);
+    memset(cut, UNTOUCHED, sizeof cut);
+    CHECK(nenturxo_tree(record, length, cut, needed - 1) == -NENTURXO_SLICE_SHORT);
+    CHECK(nenturxo_tree(record, length, cut, 0) == -NENTURXO_SLICE_SHORT);
+    CHECK(all_untouched(cut, sizeof cut));
+    CHECK(nenturxo_tree(record, length, cut, needed) == (int32_t)needed);
+    CHECK(memcmp(cut, expected, needed) == 0);
+    CHECK(all_untouched(cut + needed, sizeof cut - needed));
+}
+
+/* The labels have a record, and that has the tree that follows them. */
+#define LABELS_CUT(labels, ...)                                                              \
+    do {                                                                                     \
+        const uint8_t expected[] = {__VA_ARGS__};                                            \
+        uint8_t record[NENTURXO_RECORD_CAPACITY];                                            \
+        int32_t length = nenturxo_labels_in(labels, COUNT(labels), record, sizeof record);   \
+        CHECK(length > 0);                                                                   \
+        cuts(record, (size_t)length, expected, COUNT(expected));                             \
+    } while (0)
+
+/* Whatever the slice, with a long one, a short one and none. */
+static void refuses_tree(const uint8_t *record, size_t length, int refusal) {
+    CHECK(tree(record, length, never_written, 0) == -refusal);
+    CHECK(nenturxo_tree(record, length, never_written, 1) == -refusal);
+    CHECK(nenturxo_tree(record, length, never_written, 0) == -refusal);
+}
+
+/* A row of 255 rooms, and as many rooms each of which is cut off by a line of
+ * its own: the longest tree. */
+static void test_large_trees(void) {
+    uint8_t labels[NENTURXO_ROOMS_CAPACITY], record[NENTURXO_RECORD_CAPACITY];
+    uint8_t row[2 + NENTURXO_ROOMS_CAPACITY], comb[NENTURXO_TREE_CAPACITY];
+    int i, low = 1, high = 255;
+
+    memset(row, 1, sizeof row);
+    row[0] = 2;
+    row[1] = 255;
+    for (i = 0; i < 255; i++) {
+        labels[i] = (uint8_t)(i + 1);
+    }
+    CHECK(nenturxo_labels_in(labels, 255, record, sizeof record) == NENTURXO_RECORD_CAPACITY);
+    cuts(record, sizeof record, row, sizeof row);
+
+    /* in turn the leftmost room of what is left, and the lowest one */
+    memset(comb, 1, sizeof comb);
+    for (i = 0; i < 254; i++) {
+        labels[i] = (uint8_t)(i % 2 == 0 ? low++ : high--);
+        comb[3 * i] = (uint8_t)(2 + i % 2);
+        comb[3 * i + 1] = 2;
+    }
+    labels[254] = (uint8_t)low;
+    CHECK(nenturxo_labels_in(labels, 255, record, sizeof record) == NENTURXO_RECORD_CAPACITY);
+    cuts(record, sizeof record, comb, sizeof comb);
+}
+
+static void test_tree(void) {
+    const uint8_t rows[] = {0x04, 0x47, 0x00}, rows_cut[] = {3, 2, 2, 2, 1, 1, 2, 2, 1, 1};
+    const uint8_t one[] = {1}, rising[] = {1, 2}, falling[] = {2, 1};
+    const uint8_t bar_over_three[] = {2, 3, 4, 1};
+    const uint8_t pinwheel[] = {0x05, 0x31, 0x70}, other_pinwheel[] = {0x05, 0x0E, 0xE0};
+    const uint8_t spare[] = {0x05, 0x31, 0x71}, longer[] = {0x05, 0x31, 0x70, 0x00};
+    const uint8_t no_kind[] = {0x00, 0x31, 0x70};
+    const uint8_t missing[] = {0x02, 0x60}, left_over[] = {0x02, 0x00};
+
+    cuts(rows, 3, rows_cut, sizeof rows_cut);
+    LABELS_CUT(one, 1);
+    LABELS_CUT(rising, 2, 2, 1, 1);
+    LABELS_CUT(falling, 3, 2, 1, 1);
+    LABELS_CUT(bar_over_three, 3, 2, 2, 3, 1, 1, 1, 1);
+    test_large_trees();
+
+    /* 19 comes before 15, and the refusals of a record before both */
+    refuses_tree(pinwheel, 3, NENTURXO_NOT_SLICING);
+    refuses_tree(other_pinwheel, 3, NENTURXO_NOT_SLICING);
+    refuses_tree(no_kind, 3, NENTURXO_NO_KIND);
+    refuses_tree(pinwheel, 0, NENTURXO_NO_KIND);
+    refuses_tree(pinwheel, 2, NENTURXO_BODY_SHORT);
+    refuses_tree(longer, 4, NENTURXO_BYTES_AFTER);
+    refuses_tree(spare, 3, NENTURXO_SPARE_BIT);
+    refuses_tree(missing, 2, NENTURXO_RUN_MISSING);
+    refuses_tree(left_over, 2, NENTURXO_RUNS_LEFT);
+}
+
 int main(void) {
     test_labels_in();
     test_rooms_in();
     test_record_in();
     test_question();
     test_tidy();
+    test_tree();
     CHECK(sum(never_written, sizeof never_written) == 0);
     printf("%d checks of the C interface, %d failed\n", checks, failures);
     return failures == 0 ? 0 : 1;

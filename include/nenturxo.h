@@ -31,6 +31,7 @@ extern "C" {
 #define NENTURXO_RECORD_CAPACITY 97
 #define NENTURXO_ROOMS_CAPACITY 255
 #define NENTURXO_TIDY_CAPACITY 912
+#define NENTURXO_TREE_CAPACITY 763
 
 /* The longest text that nenturxo_tidy reads. */
 #define NENTURXO_TEXT_LENGTH 4096
@@ -55,7 +56,8 @@ enum nenturxo_refusal {
     NENTURXO_SLICE_SHORT = 15,     /* an output slice too short */
     NENTURXO_POSITION_OUTSIDE = 16,/* asked position outside 1 to n */
     NENTURXO_POSITIONS_EQUAL = 17, /* the two asked positions equal */
-    NENTURXO_TEXT_FORM = 18        /* text breaks the form or is longer than 4,096 bytes */
+    NENTURXO_TEXT_FORM = 18,       /* text breaks the form or is longer than 4,096 bytes */
+    NENTURXO_NOT_SLICING = 19      /* the plan is not slicing */
 };
 
 /* On which side of another room a room stands: the two low bits of what
@@ -152,6 +154,28 @@ int32_t nenturxo_question(const uint8_t *record, size_t length,
  * Gives the tidy text's length. Refusals, in this order: 18, 1, 6, 7, 8, 15. */
 int32_t nenturxo_tidy(const uint8_t *text, size_t length,
                       uint8_t *tidy, size_t capacity);
+
+/* Tree: a record becomes the cutting tree of its plan, if that is slicing: if
+ * lines from side to side cut the plan into parts, and again each part, down
+ * to the rooms.
+ *
+ * record     the record's bytes, all of them and no more
+ * tree       gets the tree from the root down: at most 3n - 2 bytes for n
+ *            rooms, so 763 bytes are always enough
+ *
+ * A room is the byte 1. A rectangle cut by vertical lines is the byte 2, the
+ * number of its parts, 2 to 255, and then the parts from left to right; one cut
+ * by horizontal lines is the byte 3, the number, and the parts from bottom to
+ * top. All lines of a rectangle cut it at once, so a part is either a room or
+ * cut the other way.
+ *
+ * The tree is written by recursion: a plan of 255 rooms that are cut off one by
+ * one takes about 64 KB of stack.
+ *
+ * Gives the tree's length. Refusals, in this order: 9, 10, 11, 14, 12, 13, 19,
+ * 15. */
+int32_t nenturxo_tree(const uint8_t *record, size_t length,
+                      uint8_t *tree, size_t capacity);
 
 #ifdef __cplusplus
 }

@@ -4,7 +4,7 @@ use crate::case::Case;
 use crate::outputs::{Drawing, Numbers};
 use crate::room_list::RoomList;
 use crate::timing::{one_turn, quickest, Times};
-use nenturxo::{RECORD_CAPACITY, TIDY_CAPACITY};
+use nenturxo::{RECORD_CAPACITY, TIDY_CAPACITY, TREE_CAPACITY};
 use reference::fast;
 
 /// A call by name.
@@ -90,6 +90,15 @@ pub const TIDY: Call = Call {
     },
 };
 
+pub const TREE: Call = Call {
+    name: "Tree",
+    times: |cases, calls| tree(cases, calls, |case| &case.slicing),
+    sheet: |cases| {
+        let mut tree = [0; TREE_CAPACITY];
+        one_turn(cases, |case| reference::tree(&case.slicing, &mut tree))
+    },
+};
+
 /// The times of so many calls of "Rooms in" on the lists of cases, accepted or
 /// refused.
 pub fn rooms_in<T>(cases: &[T], calls: usize, list_of: impl Fn(&T) -> &RoomList) -> Times {
@@ -111,5 +120,17 @@ pub fn tidy<T>(cases: &[T], calls: usize, text_of: impl Fn(&T) -> &[u8]) -> Time
         calls,
         |case| nenturxo::tidy(text_of(case), &mut tidied),
         |case| fast::tidy(text_of(case), &mut same),
+    )
+}
+
+/// The times of so many calls of "Tree" on the records of cases, accepted or
+/// refused.
+pub fn tree<T>(cases: &[T], calls: usize, record_of: impl Fn(&T) -> &[u8]) -> Times {
+    let [mut tree, mut same] = [[0; TREE_CAPACITY]; 2];
+    quickest(
+        cases,
+        calls,
+        |case| nenturxo::tree(record_of(case), &mut tree),
+        |case| fast::tree(record_of(case), &mut same),
     )
 }

@@ -2,8 +2,9 @@
 
 use crate::outputs::{Drawing, Numbers};
 use crate::room_list::RoomList;
-use crate::texts::answer;
+use crate::{shapes, texts};
 use compare::{of_library, Floorplan};
+use reference::cases::slicing::SlicingPlan;
 use reference::cases::text::mixed_text;
 use reference::cases::walk::random_list;
 use reference::cases::Random;
@@ -19,6 +20,9 @@ pub struct Case {
     numbering: Numbering,
     /// The labels as text, typed by many hands.
     pub text: Vec<u8>,
+    /// The record of a slicing plan with as many rooms, and its cutting tree.
+    pub slicing: Vec<u8>,
+    tree: Vec<u8>,
     /// Two positions to ask for.
     pub first: u8,
     pub second: u8,
@@ -33,9 +37,13 @@ impl Case {
         let mut plan = Floorplan::drawn(&walked.labels);
         plan.stretch(random);
         plan.shuffle(random);
+        // Copies of the generator, so that the plans are the same as without
+        // texts and trees.
+        let slicing = SlicingPlan::random(n, &mut random.clone());
         Self {
-            // A copy of the generator, so that the plans are the same as without texts.
             text: mixed_text(&walked.labels, &mut random.clone()),
+            slicing: slicing.record(),
+            tree: slicing.tree.bytes(),
             record: walked.record(),
             labels: walked.labels,
             list: RoomList::new(plan.rooms()),
@@ -53,6 +61,7 @@ impl Case {
         self.check_rooms_in();
         self.check_question();
         self.check_tidy();
+        self.check_tree();
     }
 
     fn check_labels_in(&self) {
@@ -105,7 +114,12 @@ impl Case {
     }
 
     fn check_tidy(&self) {
-        let answer = answer(&self.text);
+        let answer = texts::answer(&self.text);
         assert_eq!(answer, Ok(reference::tidy_form(&self.labels)));
+    }
+
+    fn check_tree(&self) {
+        let answer = shapes::answer(&self.slicing);
+        assert_eq!(answer.as_ref(), Ok(&self.tree), "{:02X?}", self.slicing);
     }
 }

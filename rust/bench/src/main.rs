@@ -8,15 +8,17 @@ mod calls;
 mod case;
 mod outputs;
 mod room_list;
+mod shapes;
 mod texts;
 mod timing;
 
-use calls::{rooms_in, tidy, Call, LABELS_IN, QUESTION, RECORD_IN, ROOMS_IN, TIDY};
+use calls::{rooms_in, tidy, tree, Call, LABELS_IN, QUESTION, RECORD_IN, ROOMS_IN, TIDY, TREE};
 use case::Case;
 use outputs::Numbers;
 use reference::cases::Random;
 use reference::Refusal;
 use room_list::RoomList;
+use shapes::SHAPES;
 use texts::{Kind, BROKEN_AT_THE_END, MANY_HANDS, TIDY_FORM, TOO_MANY_NUMBERS};
 use timing::{calls_in_a_round, ROUNDS};
 
@@ -32,6 +34,9 @@ const LABELS_OF_TEXTS: [usize; 2] = [40, 255];
 /// So many numbers that a text of them is longer than any that is read.
 const NUMBERS_OF_LONG_TEXTS: usize = 1300;
 
+/// The count of rooms for the shapes of plans.
+const ROOMS_OF_SHAPES: usize = 255;
+
 /// Different plans for each count of rooms.
 const PLANS: usize = 512;
 
@@ -43,7 +48,7 @@ fn main() {
     println!("{PLANS} random plans for each n, quickest of {ROUNDS} rounds");
 
     print_head("nanoseconds per call");
-    for call in [LABELS_IN, RECORD_IN, ROOMS_IN, QUESTION, TIDY] {
+    for call in [LABELS_IN, RECORD_IN, ROOMS_IN, QUESTION, TIDY, TREE] {
         for n in CALLS {
             let cases = cases(n);
             print_row(call, &cases, calls_in_a_round(&cases, n), 1.0);
@@ -59,6 +64,8 @@ fn main() {
     }
 
     print_texts("nanoseconds per call of Tidy, by the text");
+
+    print_shapes("nanoseconds per call of Tree, by the plan");
 
     print_head("nanoseconds per room");
     for call in [LABELS_IN, RECORD_IN, ROOMS_IN] {
@@ -158,4 +165,19 @@ fn print_texts_row(kind: &Kind, n: usize) {
     let bytes = texts.iter().map(Vec::len).sum::<usize>() / texts.len();
     print!("{:<10} {bytes:>5} {:>10.2}", kind.name, times.library);
     println!(" {:>10.2} {:>6.2}", times.tuned, times.ratio());
+}
+
+/// Prints the times for plans of each shape, and the ratio of the library to
+/// the tuned Rust version.
+fn print_shapes(title: &str) {
+    println!("\n{title}");
+    print!("{:<11} {:>4} {:>10}", "", "n", "library");
+    println!(" {:>10} {:>6}", "tuned", "ratio");
+    let n = ROOMS_OF_SHAPES;
+    for shape in SHAPES {
+        let records = shape.records(PLANS, n);
+        let times = tree(&records, calls_in_a_round(&records, n), |record| record);
+        print!("{:<11} {n:>4} {:>10.2}", shape.name, times.library);
+        println!(" {:>10.2} {:>6.2}", times.tuned, times.ratio());
+    }
 }

@@ -1,7 +1,7 @@
 //! Records with damage that is known.
 
 use crate::causes::first_cause;
-use reference::cases::walk::{biased_list, others_after};
+use reference::cases::walk::{biased_list, others_after, Walked};
 use reference::cases::Random;
 use reference::{Refusal, Runs, Triple, TRIPLES};
 
@@ -58,14 +58,19 @@ impl Damage {
 
     /// A random record with this damage and no other.
     pub fn record(self, random: &mut Random) -> Vec<u8> {
-        // One count of eight leaves no spare bits.
         let n = loop {
             let n = random.between(6, 255);
-            if n % 8 != 1 {
+            if leaves_spare_bits(n) {
                 break n;
             }
         };
-        let mut walked = biased_list(n, random);
+        self.done_to(biased_list(n, random), random)
+    }
+
+    /// The record of a walk, with this damage and no other. The walk has at
+    /// least 6 labels, and so many that its record has spare bits.
+    pub fn done_to(self, mut walked: Walked, random: &mut Random) -> Vec<u8> {
+        let n = walked.labels.len();
         if self.runs_left {
             leave_runs(&mut walked.triples, random);
         }
@@ -92,6 +97,13 @@ impl Damage {
         }
         record
     }
+}
+
+/// Whether the record of `n` labels has spare bits: one count of eight leaves
+/// none.
+#[must_use]
+pub fn leaves_spare_bits(n: usize) -> bool {
+    n % 8 != 1
 }
 
 /// Changes the steps from some place on so that more than one run is left

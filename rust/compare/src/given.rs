@@ -2,7 +2,9 @@
 
 use crate::lent::hex;
 use crate::records::record_length;
-use reference::{numbering_of, plan_of, Numbered, Numbering, Plan, Questions, Refusal, Room};
+use reference::{
+    numbering_of, plan_of, tree_of, Numbered, Numbering, Plan, Questions, Refusal, Room,
+};
 use std::fmt;
 
 /// An input and its answer in slices that are long enough, found once for all
@@ -21,6 +23,9 @@ pub type GivenRecord = Given<u8, Plan>;
 /// A record, and what questions about it are answered from. That takes longer
 /// to find than the plan alone.
 pub type AskedRecord = Given<u8, Questions>;
+
+/// A record, and the bytes of its plan's cutting tree.
+pub type GivenTree = Given<u8, Vec<u8>>;
 
 /// A room list, and its record, labels and positions.
 pub type GivenRooms = Given<Room, Numbering>;
@@ -59,6 +64,26 @@ impl AskedRecord {
     #[must_use]
     pub fn new(record: impl Into<Vec<u8>>) -> Self {
         Self::answered(record, |record| plan_of(record).map(Questions::about))
+    }
+}
+
+impl GivenTree {
+    /// The record with these bytes, answered by the definitions.
+    #[must_use]
+    pub fn new(record: impl Into<Vec<u8>>) -> Self {
+        Self::answered(record, |record| tree_of(record).map(|tree| tree.bytes()))
+    }
+
+    /// The record with these bytes, answered by the fast Rust version. For
+    /// large plans the definitions take long.
+    #[must_use]
+    pub fn quick(record: impl Into<Vec<u8>>) -> Self {
+        Self::answered(record, |record| {
+            let mut tree = vec![0; nenturxo::TREE_CAPACITY];
+            let length = reference::fast::tree(record, &mut tree)?;
+            tree.truncate(length);
+            Ok(tree)
+        })
     }
 }
 

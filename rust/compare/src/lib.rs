@@ -30,11 +30,12 @@ mod svg;
 mod tally;
 pub mod text_damage;
 pub mod tidy;
+pub mod tree;
 mod walks;
 
 pub use causes::each_times;
 pub use floorplan::Floorplan;
-pub use given::{AskedRecord, Given, GivenRecord, GivenRooms};
+pub use given::{AskedRecord, Given, GivenRecord, GivenRooms, GivenTree};
 pub use program::Program;
 pub use question::AskedPlan;
 pub use rounds::repeat;

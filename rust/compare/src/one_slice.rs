@@ -1,5 +1,5 @@
 //! The comparison of one case of a call that is handed bytes and writes to one
-//! slice: "Labels in" and "Tidy".
+//! slice: "Labels in", "Tidy" and "Tree".
 
 use crate::lent::{Output, Surroundings};
 use crate::outcome::{number, Answer, Outcome, Outcomes};
@@ -11,9 +11,9 @@ pub type Version = fn(&[u8], &mut [u8]) -> Answer;
 
 /// The versions of such a call.
 #[derive(Clone, Copy)]
-pub struct Versions {
+pub struct Versions<E = Version> {
     /// The one that the others are held to.
-    pub expected: Version,
+    pub expected: E,
     /// The fast Rust version.
     pub fast: Version,
     pub library: fn(&[u8], &mut [u8]) -> Result<usize, nenturxo::Refusal>,
@@ -27,10 +27,12 @@ impl Versions {
             ..self
         }
     }
+}
 
+impl<E: Fn(&[u8], &mut [u8]) -> Answer> Versions<E> {
     /// The answer that all versions agree on, for a slice of `capacity` bytes.
     pub fn agreed(
-        self,
+        &self,
         input: &[u8],
         capacity: usize,
         around: Surroundings,

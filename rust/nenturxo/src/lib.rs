@@ -37,6 +37,10 @@ pub const TIDY_CAPACITY: usize = 912;
 /// The length of the longest text that [`tidy`] reads.
 pub const TEXT_LENGTH: usize = 4096;
 
+/// The length of the longest cutting tree, that of 255 rooms of which each is
+/// cut off by a line of its own, the lines in turn vertical and horizontal.
+pub const TREE_CAPACITY: usize = 763;
+
 /// Labels in: writes the record of a label list to the front of `record` and
 /// gives its length. The rest of `record` keeps its bytes.
 ///
@@ -244,6 +248,45 @@ pub fn rooms_in(
 /// [8](Refusal::BARRED_PATTERN), [15](Refusal::SLICE_SHORT).
 pub fn tidy(text: &[u8], tidy: &mut [u8]) -> Result<usize, Refusal> {
     result(sys::tidy(text, tidy))
+}
+
+/// Tree: writes the cutting tree of a slicing plan, given as its record, to the
+/// front of `tree` and gives its length. The rest of `tree` keeps its bytes.
+///
+/// A plan is slicing if lines from side to side cut it into parts, and again
+/// each part, down to the rooms. The tree is written from the root down:
+///
+/// - A room is the byte 1.
+/// - A rectangle cut by vertical lines is the byte 2 and the number of its
+///   parts, which follow from left to right.
+/// - A rectangle cut by horizontal lines is the byte 3 and the number of its
+///   parts, which follow from bottom to top.
+///
+/// All lines of a rectangle cut it at once, so a part is either a room or cut
+/// the other way. A tree of n rooms has at most 3n − 2 bytes.
+///
+/// ```
+/// use nenturxo::{tree, Refusal, TREE_CAPACITY};
+///
+/// // Two rows of two rooms.
+/// let mut cut = [0; TREE_CAPACITY];
+/// let length = tree(&[0x04, 0x47, 0x00], &mut cut)?;
+/// assert_eq!(cut[..length], [3, 2, 2, 2, 1, 1, 2, 2, 1, 1]);
+///
+/// // A pinwheel: no line goes from side to side.
+/// assert_eq!(tree(&[0x05, 0x31, 0x70], &mut cut), Err(Refusal::NOT_SLICING));
+/// # Ok::<(), Refusal>(())
+/// ```
+///
+/// # Errors
+///
+/// The first of these that holds, and `tree` is as it was:
+/// [9](Refusal::NO_KIND), [10](Refusal::BODY_SHORT),
+/// [11](Refusal::BYTES_AFTER), [14](Refusal::SPARE_BIT),
+/// [12](Refusal::RUN_MISSING), [13](Refusal::RUNS_LEFT),
+/// [19](Refusal::NOT_SLICING), [15](Refusal::SLICE_SHORT).
+pub fn tree(record: &[u8], tree: &mut [u8]) -> Result<usize, Refusal> {
+    result(sys::tree(record, tree))
 }
 
 /// The result that a code stands for.

@@ -56,6 +56,8 @@ impl Refusal {
     pub const POSITIONS_EQUAL: Self = Self(17);
     /// 18: text breaks the form or is longer than 4,096 bytes
     pub const TEXT_FORM: Self = Self(18);
+    /// 19: the plan is not slicing
+    pub const NOT_SLICING: Self = Self(19);
 
     /// The refusal that a code below 0 stands for.
     pub(crate) const fn from_code(code: Code) -> Self {
@@ -90,6 +92,7 @@ impl Refusal {
             Self::POSITION_OUTSIDE => "asked position outside 1 to n",
             Self::POSITIONS_EQUAL => "the two asked positions equal",
             Self::TEXT_FORM => "text breaks the form or is longer than 4,096 bytes",
+            Self::NOT_SLICING => "the plan is not slicing",
             // The library has no other numbers.
             _ => "not in the table",
         }

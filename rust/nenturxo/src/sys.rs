@@ -46,6 +46,8 @@ mod c {
         ) -> Code;
 
         pub fn nenturxo_tidy(text: *const u8, n: usize, tidy: *mut u8, capacity: usize) -> Code;
+
+        pub fn nenturxo_tree(record: *const u8, n: usize, tree: *mut u8, capacity: usize) -> Code;
     }
 }
 
@@ -128,4 +130,12 @@ pub fn tidy(text: &[u8], tidy: &mut [u8]) -> Code {
     // them say, the second one for writing too, and as one of the two slices
     // is borrowed mutably they do not overlap. The call keeps no pointer.
     unsafe { c::nenturxo_tidy(text.as_ptr(), text.len(), tidy.as_mut_ptr(), tidy.len()) }
+}
+
+/// `nenturxo_tree` on two slices.
+pub fn tree(record: &[u8], tree: &mut [u8]) -> Code {
+    // SAFETY: both pointers are good for as many bytes as the lengths beside
+    // them say, the second one for writing too, and as one of the two slices
+    // is borrowed mutably they do not overlap. The call keeps no pointer.
+    unsafe { c::nenturxo_tree(record.as_ptr(), record.len(), tree.as_mut_ptr(), tree.len()) }
 }

@@ -5,6 +5,7 @@
 
 pub mod asked;
 mod random;
+pub mod slicing;
 mod small;
 pub mod text;
 pub mod walk;

@@ -7,9 +7,11 @@ mod rooms;
 mod steps;
 mod text;
 mod tidy;
+mod tree;
 mod walks;
 
 pub use labels::labels_in;
 pub use plan::{question, record_in};
 pub use rooms::rooms_in;
 pub use tidy::tidy;
+pub use tree::tree;

@@ -2,7 +2,7 @@
 //!
 //! This is the separately written version that the proved library is held to.
 //! It is meant to be believed by reading: each function is one sentence of
-//! the sheet, or of the requests M-100 to M-102, and says which. What is fast
+//! the sheet, or of the requests M-100 to M-103, and says which. What is fast
 //! lives apart, in [`fast`], and is itself held to the definitions. What tests
 //! are made of is in [`cases`].
 //!
@@ -20,6 +20,7 @@
 
 mod barred;
 pub mod cases;
+mod cutting;
 mod drawing;
 mod edge;
 pub mod fast;
@@ -32,11 +33,14 @@ mod refusal;
 mod relation;
 mod rooms;
 mod runs;
+mod slicing;
 mod text;
 mod tidy;
+mod tree;
 mod triple;
 
 pub use barred::is_barred;
+pub use cutting::{cutting_tree, Cut, CuttingTree};
 pub use drawing::{drawing, Room};
 pub use edge::{Edge, Line};
 pub use labels::labels_in;
@@ -50,6 +54,8 @@ pub use rooms::{
     equivalent, numbering_of, rooms_in, segments, Chains, Contacts, Numbered, Numbering, Segment,
 };
 pub use runs::{labels_of, Runs, TRIPLES};
+pub use slicing::is_slicing;
 pub use text::{numbers_in, tidy_form};
 pub use tidy::tidy;
+pub use tree::{tree, tree_of};
 pub use triple::{triples, Triple};

@@ -1,4 +1,4 @@
-//! The sheet's table of refusals, with the number that M-100 adds.
+//! The sheet's table of refusals, with the numbers that M-100 and M-103 add.
 
 use std::fmt;
 
@@ -42,11 +42,13 @@ pub enum Refusal {
     PositionsEqual = 17,
     /// 18: text breaks the form or is longer than 4,096 bytes
     TextForm = 18,
+    /// 19: the plan is not slicing
+    NotSlicing = 19,
 }
 
 impl Refusal {
     /// Every refusal, in the order of the table.
-    pub const ALL: [Self; 18] = [
+    pub const ALL: [Self; 19] = [
         Self::ListLength,
         Self::EmptyRoom,
         Self::SharedSquare,
@@ -65,6 +67,7 @@ impl Refusal {
         Self::PositionOutside,
         Self::PositionsEqual,
         Self::TextForm,
+        Self::NotSlicing,
     ];
 
     /// What a room list is refused with, in the sheet's order, before 15.
@@ -93,6 +96,18 @@ impl Refusal {
         Self::SpareBit,
         Self::RunMissing,
         Self::RunsLeft,
+    ];
+
+    /// What a record is refused with where its tree is asked for, in the
+    /// request's order, before 15.
+    pub const OF_TREES: [Self; 7] = [
+        Self::NoKind,
+        Self::BodyShort,
+        Self::BytesAfter,
+        Self::SpareBit,
+        Self::RunMissing,
+        Self::RunsLeft,
+        Self::NotSlicing,
     ];
 
     /// What a text is refused with, in the request's order, before 15.
@@ -132,6 +147,7 @@ impl Refusal {
             Self::PositionOutside => "asked position outside 1 to n",
             Self::PositionsEqual => "the two asked positions equal",
             Self::TextForm => "text breaks the form or is longer than 4,096 bytes",
+            Self::NotSlicing => "the plan is not slicing",
         }
     }
 }
@@ -149,9 +165,9 @@ mod tests {
     use super::Refusal;
 
     #[test]
-    fn numbers_are_1_to_18_in_the_order_of_the_table() {
+    fn numbers_are_1_to_19_in_the_order_of_the_table() {
         let numbers: Vec<u8> = Refusal::ALL.iter().map(|r| r.number()).collect();
-        assert_eq!(numbers, (1..=18).collect::<Vec<u8>>());
+        assert_eq!(numbers, (1..=19).collect::<Vec<u8>>());
     }
 
     #[test]
@@ -160,6 +176,7 @@ mod tests {
         assert_eq!(numbers(&Refusal::OF_ROOMS), [1, 2, 3, 4, 5]);
         assert_eq!(numbers(&Refusal::OF_LABELS), [1, 6, 7, 8]);
         assert_eq!(numbers(&Refusal::OF_RECORDS), [9, 10, 11, 14, 12, 13]);
+        assert_eq!(numbers(&Refusal::OF_TREES), [9, 10, 11, 14, 12, 13, 19]);
         assert_eq!(numbers(&Refusal::OF_TEXTS), [18, 1, 6, 7, 8]);
     }
 }

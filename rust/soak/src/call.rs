@@ -25,7 +25,7 @@ const OF_SLICES: &[Refusal] = &[Refusal::SliceShort];
 const OF_POSITIONS: &[Refusal] = &[Refusal::PositionOutside, Refusal::PositionsEqual];
 
 /// The calls of the library.
-pub const CALLS: [Call; 5] = [
+pub const CALLS: [Call; 6] = [
     Call {
         name: "Labels in",
         compare_some: labels::compare_some,
@@ -50,6 +50,11 @@ pub const CALLS: [Call; 5] = [
         name: "Tidy",
         compare_some: texts::compare_some,
         refusals: [&Refusal::OF_TEXTS, OF_SLICES],
+    },
+    Call {
+        name: "Tree",
+        compare_some: records::cut_some,
+        refusals: [&Refusal::OF_TREES, OF_SLICES],
     },
 ];
 

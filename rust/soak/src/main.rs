@@ -25,7 +25,7 @@ use std::sync::atomic::{AtomicUsize, Ordering};
 use std::{env, panic, process, thread};
 
 /// Batches, unless the argument says otherwise.
-const BATCHES: usize = 6_250;
+const BATCHES: usize = 7_500;
 
 const THREADS: usize = 2;
 

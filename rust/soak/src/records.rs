@@ -1,10 +1,11 @@
-//! Inputs of "Record in" and of the question.
+//! Inputs of "Record in", of the question and of "Tree".
 
 use crate::rooms::some_plan;
-use crate::size::{capacities, some_walk};
+use crate::size::{by_definitions, capacities, some_count, some_walk};
 use compare::damage::Damage;
 use compare::records::record_length;
-use compare::{AskedPlan, AskedRecord, GivenRecord, Tally};
+use compare::{AskedPlan, AskedRecord, GivenRecord, GivenTree, Tally};
+use reference::cases::slicing::{SlicingPlan, PINWHEELS};
 use reference::cases::Random;
 
 /// Records of a turn.
@@ -12,6 +13,9 @@ const RECORDS: usize = 2;
 
 /// Pairs of positions for each record.
 const PAIRS: usize = 5;
+
+/// Trees of so many rooms are always held to the definitions.
+const SHORT: usize = 40;
 
 /// Compares a record, and the same record with damage.
 pub fn compare_some(tally: &mut Tally, random: &mut Random) {
@@ -52,6 +56,37 @@ fn ask_for_rooms(tally: &mut Tally, plan: &AskedPlan, random: &mut Random) {
     }
 }
 
+/// Compares the trees of a record, and of the same record with damage. In most
+/// turns the plan is slicing, which hardly any large one is by chance.
+pub fn cut_some(tally: &mut Tally, random: &mut Random) {
+    let records = match random.below(4) {
+        0 => some_records(random),
+        _ => with_damage(some_slicing_record(random), random),
+    };
+    for record in records {
+        let n = usize::from(kind(&record));
+        let given = if by_definitions(n, SHORT, random) {
+            GivenTree::new(record)
+        } else {
+            GivenTree::quick(record)
+        };
+        let needed = given.answer.as_ref().map_or(3 * n, Vec::len);
+        let [capacity] = capacities([needed], random);
+        let _ = tally.tree(&given, capacity);
+    }
+}
+
+/// The record of a slicing plan, sometimes with a pinwheel in it.
+fn some_slicing_record(random: &mut Random) -> Vec<u8> {
+    let n = some_count(random);
+    let plan = SlicingPlan::in_turn(n, random.below(2), random);
+    if n <= 251 && random.below(8) == 0 {
+        let walked = plan.with_a_pinwheel(random.below(n), random.pick(&PINWHEELS));
+        return walked.record();
+    }
+    plan.record()
+}
+
 /// The kind byte of a record, 0 if there is none.
 fn kind(record: &[u8]) -> u8 {
     record.first().copied().unwrap_or(0)
@@ -73,7 +108,11 @@ fn some_position(record: &[u8], random: &mut Random) -> u8 {
 
 /// A record that is accepted, and one with damage.
 fn some_records(random: &mut Random) -> [Vec<u8>; RECORDS] {
-    let record = some_walk(random).record();
+    with_damage(some_walk(random).record(), random)
+}
+
+/// A record, and the same record with damage.
+fn with_damage(record: Vec<u8>, random: &mut Random) -> [Vec<u8>; RECORDS] {
     let damaged = damaged(&record, random);
     [record, damaged]
 }

@@ -25,6 +25,7 @@ fn both_sides_give_the_same_number_and_sentence_to_every_refusal() {
         Bound::POSITION_OUTSIDE,
         Bound::POSITIONS_EQUAL,
         Bound::TEXT_FORM,
+        Bound::NOT_SLICING,
     ];
     let mut compared = 0;
     for (bound, refusal) in bound.into_iter().zip(Refusal::ALL) {
@@ -33,5 +34,5 @@ fn both_sides_give_the_same_number_and_sentence_to_every_refusal() {
         compared += 1;
     }
     report(format_args!("{compared} refusals compared"));
-    assert_eq!(compared, 18);
+    assert_eq!(compared, 19);
 }

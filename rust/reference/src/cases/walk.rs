@@ -112,15 +112,14 @@ pub fn biased_list(n: usize, random: &mut Random) -> Walked {
 }
 
 /// A random walk whose steps come up in proportion to their weights, among
-/// those that the table allows and that leave no more runs to be joined than
-/// there are positions to come: a step joins at most one run to another.
+/// those that lead to an end.
 fn weighted_list(n: usize, weights: [usize; 8], random: &mut Random) -> Walked {
     let mut runs = Runs::start();
     let mut triples = Vec::new();
     for to_come in (0..n - 1).rev() {
         let mut choices = Vec::new();
         for (triple, weight) in TRIPLES.into_iter().zip(weights) {
-            if runs.have_what_it_needs(triple) && others_after(&runs, triple) <= to_come {
+            if leads_to_an_end(&runs, triple, to_come) {
                 choices.extend(std::iter::repeat_n(triple, weight));
             }
         }
@@ -132,6 +131,39 @@ fn weighted_list(n: usize, weights: [usize; 8], random: &mut Random) -> Walked {
         labels: runs.labels(),
         triples,
     }
+}
+
+/// Calls `visit` with the triples of every walk of `n` labels, at least 1.
+pub fn each_walk(n: usize, mut visit: impl FnMut(&[Triple])) {
+    go_on(&Runs::start(), &mut Vec::new(), n - 1, &mut visit);
+}
+
+/// Calls `visit` with every walk that begins with the given steps, of which
+/// these are the runs, and has so many steps to come.
+fn go_on(
+    runs: &Runs,
+    triples: &mut Vec<Triple>,
+    to_come: usize,
+    visit: &mut impl FnMut(&[Triple]),
+) {
+    if to_come == 0 {
+        return visit(triples);
+    }
+    for triple in TRIPLES {
+        if leads_to_an_end(runs, triple, to_come - 1) {
+            let mut runs = runs.clone();
+            runs.step(triple);
+            triples.push(triple);
+            go_on(&runs, triples, to_come - 1, visit);
+            triples.pop();
+        }
+    }
+}
+
+/// Whether the table allows a step, and it leaves no more runs to be joined
+/// than there are positions to come: a step joins at most one run to another.
+fn leads_to_an_end(runs: &Runs, triple: Triple, to_come: usize) -> bool {
+    runs.have_what_it_needs(triple) && others_after(runs, triple) <= to_come
 }
 
 /// The number of runs beside the current one after a step that has what it
@@ -148,9 +180,9 @@ pub fn others_after(runs: &Runs, triple: Triple) -> usize {
 
 #[cfg(test)]
 mod tests {
-    use super::{biased_list, random_list, Walked};
-    use crate::cases::Random;
-    use crate::{is_barred, triples};
+    use super::{biased_list, each_walk, random_list, Walked};
+    use crate::cases::{Random, BAXTER_NUMBERS};
+    use crate::{is_barred, labels_of, triples};
     use std::collections::HashSet;
 
     #[test]
@@ -162,6 +194,18 @@ mod tests {
         }
         assert!(met.iter().all(|labels| !is_barred(labels)));
         assert_eq!(met.len(), 92, "the Baxter number for 5");
+    }
+
+    #[test]
+    fn every_walk_of_up_to_8_labels_comes_up_once() {
+        for (n, number) in (1..=8).zip(BAXTER_NUMBERS) {
+            let mut walks = HashSet::new();
+            each_walk(n, |triples| {
+                assert!(labels_of(triples).is_ok_and(|labels| labels.len() == n));
+                assert!(walks.insert(triples.to_vec()), "{triples:?}");
+            });
+            assert_eq!(walks.len(), number, "n = {n}");
+        }
     }
 
     /// Holds a walk of `n` labels to the definitions.

@@ -52,9 +52,9 @@ impl Step {
     }
 }
 
-/// Reads the steps and gives the number of rooms, or one of 9, 10, 11 and 14.
+/// The number of rooms and the body of a record, or one of 9, 10, 11 and 14.
 #[inline(always)]
-pub(super) fn read(record: &[u8], steps: &mut Steps) -> Result<usize, Refusal> {
+pub(super) fn body_of(record: &[u8]) -> Result<(usize, &[u8]), Refusal> {
     let (&kind, body) = record.split_first().ok_or(Refusal::NoKind)?;
     let n = usize::from(kind);
     let bits = (3 * n).checked_sub(3).ok_or(Refusal::NoKind)?;
@@ -69,7 +69,14 @@ pub(super) fn read(record: &[u8], steps: &mut Steps) -> Result<usize, Refusal> {
     if body.last().is_some_and(|last| last & spare != 0) {
         return Err(Refusal::SpareBit);
     }
+    Ok((n, body))
+}
 
+/// Reads the steps and gives the number of rooms, or one of 9, 10, 11 and 14.
+#[inline(always)]
+pub(super) fn read(record: &[u8], steps: &mut Steps) -> Result<usize, Refusal> {
+    let (n, body) = body_of(record)?;
+    let length = body.len();
     let mut padded = [0; BODY];
     padded[..length].copy_from_slice(body);
     let eights = steps[1..].chunks_exact_mut(8).zip(padded.chunks_exact(3));
@@ -80,13 +87,19 @@ pub(super) fn read(record: &[u8], steps: &mut Steps) -> Result<usize, Refusal> {
     Ok(n)
 }
 
-/// The steps of eight triples in 24 bits.
-fn eight_steps(triples: u32) -> [u8; 8] {
+/// Eight triples in 24 bits, the first one on top, each in a byte of its own.
+#[inline(always)]
+pub(super) fn apart(triples: u32) -> u64 {
     // Halves, quarters and then eighths of the bits move apart.
     let bits = u64::from(triples);
     let bits = (bits | bits << 20) & 0x0000_0fff_0000_0fff;
     let bits = (bits | bits << 10) & 0x003f_003f_003f_003f;
-    let bits = (bits | bits << 5) & 0x0707_0707_0707_0707;
+    (bits | bits << 5) & 0x0707_0707_0707_0707
+}
+
+/// The steps of eight triples in 24 bits.
+fn eight_steps(triples: u32) -> [u8; 8] {
+    let bits = apart(triples);
     // Going up, the first bit of a triple tells of the next run and the
     // second one of the current run; going down it is the other way round.
     let differ = (bits >> 1 ^ bits >> 2) & bits & 0x0101_0101_0101_0101;
