@@ -17,7 +17,7 @@ use Rattle.slicing.specs.Blocks.{Whole, blocks-count}
 use Rattle.slicing.specs.Size.{bytes-of-blocks}
 use Rattle.slicing.specs.Lines.{append, count-append, bytes-append, blocks-joined, blocks-from, blocks-upto}
 use Rattle.slicing.specs.Lines.{leaf-block, node-block, line-between, several-blocks, one-block}
-use Rattle.slicing.specs.Interval.{interval-of-first, interval-of-rest, lowestOfFirst, lowestOfRest}
+use Rattle.slicing.specs.Interval.{placeOf, first-places→parts, interval-of-first, interval-of-rest, lowestOfFirst, lowestOfRest}
 use Rattle.slicing.specs.declared.Cut.{Cut}
 use Rattle.slicing.specs.declared.Cut.the-variants.{Vertical, Horizontal}
 use Rattle.trees.specs.Block.{BlockOf, FirstBefore, oneBlock, FindsLine, TreesStand, NoTrees, Part, EndsPart}
@@ -246,3 +246,13 @@ pub all-part : {labels : List ℕ} {from to lowest : ℕ} (cut : Cut) → BlockO
     → Part labels cut from to to
 all-part cut b last =
     record { some = b .interval .some; within = omega arith; parts = λ i a c j d e. absurd (omega arith); whole = λ q. last }
+
+pub leaf-part : {labels : List ℕ} {from to lowest : ℕ} (cut : Cut) → BlockOf labels from to lowest
+    → placeOf cut from to lowest (labelAt labels from) ≡ from → Part labels cut from (from + 1) to
+leaf-part {labels} {from} {to} {lowest} cut b in-place = record {
+  some = omega arith;
+  within = omega (arith, b .interval .some);
+  parts = first-places→parts (b .interval) cut (from + 1) (omega arith) (omega (arith, b .interval .some)) (λ i a c.
+      let same : from ≡ i = omega arith in subst (λ (x : ℕ). placeOf cut from to lowest (labelAt labels x) < from + 1) same (omega arith));
+  whole = λ q first. omega (arith, two-rooms b cut first);
+}

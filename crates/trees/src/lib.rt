@@ -136,12 +136,15 @@ fn lowest_after(cut: Cut, from: usize, line: usize, lowest: usize) -> usize
     }
 }
 
-// Where the first part ends of rooms that are put part by part: before a line; or, where the first and the last label tell that they are
-// one block, after the last room.
+// Where the first part ends of rooms that are put part by part: after a room that is in its place, which is a leaf; else before a line;
+// or, where the first and the last label tell that they are one block, after the last room.
 fn part_end(labels: &[u8], from: usize, to: usize, lowest: usize, cut: Cut) -> Line
     requires { ⌜ BlockOf (now labels) from to lowest ⌝ }
     ensures { λ r. ⌜ EndsPart r (now (labels .entry)) cut from to ⌝ }
 {
+    if place(labels, from, to, lowest, cut, from) == from {
+        return Line::Before(from + 1);
+    }
     if stands_before(cut, labels[from - 1], labels[to - 2]) {
         return find_line(labels, from, to, lowest, cut);
     }
