@@ -68,7 +68,7 @@ module _ (f : ℕ → ℕ) (n : ℕ) where
 
     -- a byte for each room and two for each node, and so 3n − 2 at most
     pub m103-tree-length : length (bytesOf tree) ≡ n + 2 * nodes tree
-    m103-tree-length = omega (arith, bytes-are f tree, leaves-are)
+    m103-tree-length = omega (arith, bytes-are tree, leaves-are)
 
     pub m103-tree-at-most : length (bytesOf tree) + 2 ≤ 3 * n
     m103-tree-at-most = omega (arith, bytes-of-tree f tree 1 (suc n) is)

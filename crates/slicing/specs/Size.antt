@@ -38,6 +38,18 @@ abbrev mutual
   LevelsBelow n cut none = Unit
   LevelsBelow n cut (child then rest) = Alternates cut child × Levels n child × LevelsBelow n cut rest
 
+mutual
+  unfolding leaves nodes bytesOf
+
+  -- a byte for each leaf, and two for each node
+  pub bytes-are : (tree : Tree) → length (bytesOf tree) ≡ leaves tree + 2 * nodes tree
+  bytes-are leaf = refl
+  bytes-are (node cut children) = omega (arith, bytes-are-all children)
+
+  bytes-are-all : (children : Trees) → length (bytesOfAll children) ≡ leavesOfAll children + 2 * nodesOfAll children
+  bytes-are-all none = refl
+  bytes-are-all (child then rest) = omega (arith, bytes-are child, bytes-are-all rest, length-append (bytesOf child) (bytesOfAll rest))
+
 module _ (f : ℕ → ℕ) where
   -- the positions of the rooms that the leaves stand for, from the first leaf to the last
   unfoldable mutual
@@ -79,18 +91,6 @@ module _ (f : ℕ → ℕ) where
         ∙ ap (λ (l : List ℕ). table (λ i. s + i) (leaves child) ++ l)
         (table-same (λ i. m + i) (λ i. s + (leaves child + i)) (leavesOfAll rest) (λ i h. omega (arith, leaves-are-rooms child s m tree)))
         ∙ sym (table-append (λ i. s + i) (leaves child) (leavesOfAll rest))
-
-  mutual
-    unfolding leaves nodes bytesOf
-
-    -- a byte for each leaf, and two for each node
-    pub bytes-are : (tree : Tree) → length (bytesOf tree) ≡ leaves tree + 2 * nodes tree
-    bytes-are leaf = refl
-    bytes-are (node cut children) = omega (arith, bytes-are-all children)
-
-    bytes-are-all : (children : Trees) → length (bytesOfAll children) ≡ leavesOfAll children + 2 * nodesOfAll children
-    bytes-are-all none = refl
-    bytes-are-all (child then rest) = omega (arith, bytes-are child, bytes-are-all rest, length-append (bytesOf child) (bytesOfAll rest))
 
   mutual
     unfolding bytesOf

@@ -3,7 +3,7 @@ ghost use Prim.Native.Nat.{suc, _+_, _≤_, _<_, max, min};
 ghost use mathlib.Core.Path.{_≡_};
 ghost use lib.ListN.{length};
 ghost use Rattle.finite.specs.Decide.{Tells};
-ghost use Rattle.record.specs.Labels.{labelAt, EachOnce};
+ghost use Rattle.record.specs.Labels.{labelAt};
 ghost use Rattle.slicing.specs.Cuts.{opposite as oppositeOf, Before};
 ghost use Rattle.slicing.specs.Tree.{kindOfCut};
 ghost use Rattle.slicing.specs.Interval.{placeOf, lowestOfFirst, lowestOfRest};
