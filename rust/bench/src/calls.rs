@@ -3,7 +3,7 @@
 use crate::case::Case;
 use crate::outputs::{Drawing, Numbers};
 use crate::room_list::RoomList;
-use crate::timing::{one_turn, quickest, Times};
+use crate::timing::{one_turn, quickest, quickest_of_three, Times};
 use nenturxo::{RECORD_CAPACITY, TIDY_CAPACITY, TREE_CAPACITY};
 use reference::fast;
 
@@ -92,7 +92,15 @@ pub const TIDY: Call = Call {
 
 pub const TREE: Call = Call {
     name: "Tree",
-    times: |cases, calls| tree(cases, calls, |case| &case.slicing),
+    times: |cases, calls| {
+        let [mut tree, mut same] = [[0; TREE_CAPACITY]; 2];
+        quickest(
+            cases,
+            calls,
+            |case| nenturxo::tree(&case.slicing, &mut tree),
+            |case| fast::tree(&case.slicing, &mut same),
+        )
+    },
     sheet: |cases| {
         let mut tree = [0; TREE_CAPACITY];
         one_turn(cases, |case| reference::tree(&case.slicing, &mut tree))
@@ -123,14 +131,15 @@ pub fn tidy<T>(cases: &[T], calls: usize, text_of: impl Fn(&T) -> &[u8]) -> Time
     )
 }
 
-/// The times of so many calls of "Tree" on the records of cases, accepted or
-/// refused.
-pub fn tree<T>(cases: &[T], calls: usize, record_of: impl Fn(&T) -> &[u8]) -> Times {
-    let [mut tree, mut same] = [[0; TREE_CAPACITY]; 2];
-    quickest(
-        cases,
+/// The times of so many calls of "Tree" on records, accepted or refused, and
+/// after them that of the version that recurses on intervals of labels.
+pub fn tree(records: &[Vec<u8>], calls: usize) -> (Times, f64) {
+    let [mut tree, mut same, mut again] = [[0; TREE_CAPACITY]; 3];
+    quickest_of_three(
+        records,
         calls,
-        |case| nenturxo::tree(record_of(case), &mut tree),
-        |case| fast::tree(record_of(case), &mut same),
+        |record| nenturxo::tree(record, &mut tree),
+        |record| fast::tree(record, &mut same),
+        |record| fast::tree_by_intervals(record, &mut again),
     )
 }

@@ -18,7 +18,7 @@ use outputs::Numbers;
 use reference::cases::Random;
 use reference::Refusal;
 use room_list::RoomList;
-use shapes::SHAPES;
+use shapes::{Shape, SHAPES};
 use texts::{Kind, BROKEN_AT_THE_END, MANY_HANDS, TIDY_FORM, TOO_MANY_NUMBERS};
 use timing::{calls_in_a_round, ROUNDS};
 
@@ -33,9 +33,6 @@ const LABELS_OF_TEXTS: [usize; 2] = [40, 255];
 
 /// So many numbers that a text of them is longer than any that is read.
 const NUMBERS_OF_LONG_TEXTS: usize = 1300;
-
-/// The count of rooms for the shapes of plans.
-const ROOMS_OF_SHAPES: usize = 255;
 
 /// Different plans for each count of rooms.
 const PLANS: usize = 512;
@@ -167,17 +164,26 @@ fn print_texts_row(kind: &Kind, n: usize) {
     println!(" {:>10.2} {:>6.2}", times.tuned, times.ratio());
 }
 
-/// Prints the times for plans of each shape, and the ratio of the library to
-/// the tuned Rust version.
+/// Prints the times for plans of each shape.
 fn print_shapes(title: &str) {
     println!("\n{title}");
     print!("{:<11} {:>4} {:>10}", "", "n", "library");
-    println!(" {:>10} {:>6}", "tuned", "ratio");
-    let n = ROOMS_OF_SHAPES;
+    print!(" {:>10} {:>6}", "tuned", "ratio");
+    println!(" {:>12} {:>6}", "by intervals", "ratio");
     for shape in SHAPES {
-        let records = shape.records(PLANS, n);
-        let times = tree(&records, calls_in_a_round(&records, n), |record| record);
-        print!("{:<11} {n:>4} {:>10.2}", shape.name, times.library);
-        println!(" {:>10.2} {:>6.2}", times.tuned, times.ratio());
+        for &n in shape.rooms {
+            print_shapes_row(&shape, n);
+        }
     }
+}
+
+/// Prints the times for plans of a shape, and the ratios of the library to the
+/// tuned Rust version and to the one that has the library's form.
+fn print_shapes_row(shape: &Shape, n: usize) {
+    let records = shape.records(PLANS, n);
+    let (times, by_intervals) = tree(&records, calls_in_a_round(&records, n));
+    print!("{:<11} {n:>4} {:>10.2}", shape.name, times.library);
+    print!(" {:>10.2} {:>6.2}", times.tuned, times.ratio());
+    let ratio = times.library / by_intervals;
+    println!(" {by_intervals:>12.2} {ratio:>6.2}");
 }

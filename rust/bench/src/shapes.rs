@@ -4,11 +4,13 @@ use nenturxo::TREE_CAPACITY;
 use reference::cases::slicing::{End, SlicingPlan, COMBS, PINWHEELS};
 use reference::cases::walk::random_list;
 use reference::cases::Random;
-use reference::{Cut, Refusal};
+use reference::{fast, Cut, Refusal};
 
 /// A shape of plans, and the refusal that "Tree" gives it, if any.
 pub struct Shape {
     pub name: &'static str,
+    /// The counts of rooms that it is timed with.
+    pub rooms: &'static [usize],
     /// So many records of `n` rooms, if there are that many plans.
     records: fn(usize, usize, &mut Random) -> Vec<Vec<u8>>,
     refusal: Option<Refusal>,
@@ -20,26 +22,31 @@ pub struct Shape {
 pub const SHAPES: [Shape; 7] = [
     Shape {
         name: "row",
+        rooms: &[255],
         records: |_, n, _| CUTS.map(|cut| SlicingPlan::row(cut, n).record()).to_vec(),
         refusal: None,
     },
     Shape {
         name: "comb, first",
+        rooms: &[255],
         records: |_, n, _| combs(n, &COMBS[..1]),
         refusal: None,
     },
     Shape {
         name: "comb, last",
+        rooms: &[255],
         records: |_, n, _| combs(n, &COMBS[1..2]),
         refusal: None,
     },
     Shape {
         name: "spiral",
+        rooms: &[255],
         records: |_, n, _| combs(n, &COMBS[3..]),
         refusal: None,
     },
     Shape {
         name: "random",
+        rooms: &[40, 255],
         records: |count, n, random| {
             let plans = (0..count).map(|_| SlicingPlan::random(n, random));
             plans.map(|plan| plan.record()).collect()
@@ -48,11 +55,13 @@ pub const SHAPES: [Shape; 7] = [
     },
     Shape {
         name: "pinwheel",
+        rooms: &[255],
         records: |count, n, random| (0..count).map(|_| with_a_pinwheel(n, random)).collect(),
         refusal: Some(Refusal::NotSlicing),
     },
     Shape {
         name: "any plan",
+        rooms: &[255],
         records: |count, n, random| (0..count).map(|_| not_slicing(n, random)).collect(),
         refusal: Some(Refusal::NotSlicing),
     },
@@ -86,7 +95,7 @@ fn not_slicing(n: usize, random: &mut Random) -> Vec<u8> {
 }
 
 impl Shape {
-    /// Records of this shape. Both versions answer them alike.
+    /// Records of this shape. All versions answer them alike.
     pub fn records(&self, count: usize, n: usize) -> Vec<Vec<u8>> {
         let records = (self.records)(count, n, &mut Random::from_seed(n as u64));
         for record in &records {
@@ -96,14 +105,17 @@ impl Shape {
     }
 }
 
-/// What both versions answer a record with, in a slice that is long enough.
-/// They must agree.
+/// What all versions answer a record with, in a slice that is long enough. They
+/// must agree.
 pub fn answer(record: &[u8]) -> Result<Vec<u8>, Refusal> {
-    let [mut library, mut rust] = [[0; TREE_CAPACITY]; 2];
+    let [mut library, mut rust, mut same] = [[0; TREE_CAPACITY]; 3];
     let by_library = nenturxo::tree(record, &mut library).map_err(|r| r.number());
-    let answer = reference::fast::tree(record, &mut rust);
+    let answer = fast::tree(record, &mut rust);
     let expected = answer.map_err(|refusal| u32::from(refusal.number()));
     assert_eq!(by_library, expected, "{record:02X?}");
     assert_eq!(library, rust, "{record:02X?}");
+    let by_intervals = fast::tree_by_intervals(record, &mut same);
+    assert_eq!(by_intervals, answer, "{record:02X?}");
+    assert_eq!(same, rust, "{record:02X?}");
     answer.map(|length| rust[..length].to_vec())
 }

@@ -8,6 +8,9 @@ mod steps;
 mod text;
 mod tidy;
 mod tree;
+mod tree_by_intervals;
+#[cfg(test)]
+mod tree_checks;
 mod walks;
 
 pub use labels::labels_in;
@@ -15,3 +18,4 @@ pub use plan::{question, record_in};
 pub use rooms::rooms_in;
 pub use tidy::tidy;
 pub use tree::tree;
+pub use tree_by_intervals::tree_by_intervals;
