@@ -192,7 +192,7 @@ rest-missing f cut from s to begun more behind missing = record {
 }
 
 -- no line, and no tree of rooms that are cut the other way
-pub no-line-missing : {f : ℕ → ℕ} {cut : Cut} {s e : ℕ} → suc s < e → Before cut (f s) (f (e - 1)) → Whole f cut s e → NoTrees f cut s e
+no-line-missing : {f : ℕ → ℕ} {cut : Cut} {s e : ℕ} → suc s < e → Before cut (f s) (f (e - 1)) → Whole f cut s e → NoTrees f cut s e
 no-line-missing {f} {cut} {s} {e} more first whole = record {
   none-such = λ children blocks.
       let (m, a, b, line) = line-between f cut children s e (several-blocks f cut children s e more first blocks) blocks in
