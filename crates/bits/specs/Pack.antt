@@ -1,7 +1,7 @@
 -- Laws on lists of bytes and their bits: bits that are packed into bytes are found there again, equal bits make equal lists, and a
 -- group's number says which bits it has.
 use mathlib.Core.Bool.{Bool, true, false}
-use mathlib.Core.List.{List}
+use mathlib.Core.List.{List, [], _∷_}
 use mathlib.Core.Logic.{inl, inr}
 use mathlib.Core.Path.{_≡_, refl, sym, ap, ap₂, _∙_}
 use Prim.Native.Nat.{ℕ, zero, suc, _+_, _-_, _*_, _/_, _%_, _^_, _≤_, _<_}
@@ -9,7 +9,7 @@ use native.Mathlib.Nat.{add-zero, add-suc, div-one, pow-suc, zero-div}
 use native.Mathlib.Numerals.{one-add}
 use native.Mathlib.Omega.{arith}
 use lib.Dec.{eqb, eqb→eq}
-use lib.ListN.{length, getD, take, replicate, List·getD-eq-default}
+use lib.ListN.{length, getD, take, drop, replicate, List·getD-eq-default}
 use lib.Pow.{shr-shr}
 use lib.Seq.{ext-getD}
 use Rattle.finite.specs.Decide.{le-or-lt}
@@ -79,6 +79,11 @@ byte-bit b i h =
     let e : 8 ≡ suc i + (7 - i) = omega arith in
     rw (e, value-first b (suc i) (7 - i), value-last) (bit-back (b i))
 
+-- two bytes with the same bits are the same
+pub same-byte : (x y : ℕ) → x < 256 → y < 256 → ((i : ℕ) → i < 8 → bitIn x i ≡ bitIn y i) → x ≡ y
+unfolding byteOf
+same-byte x y hx hy h = sym (byte-is x hx) ∙ value-same (bitIn x) (bitIn y) 8 h ∙ byte-is y hy
+
 -- ---- the bits of a list
 -- bit i of byte j is bit 8j + i of the list
 pub bitAt-byte : (bytes : List ℕ) (j i : ℕ) → i < 8 → bitAt bytes (8 * j + i) ≡ bitIn (getD bytes j 0) i
@@ -88,16 +93,37 @@ bitAt-byte bytes j i h =
     let r : (8 * j + i) % 8 ≡ i = omega arith in
     rw (q, r)
 
+-- in the first byte
+pub bitAt-first : (bytes : List ℕ) (i : ℕ) → i < 8 → bitAt bytes i ≡ bitIn (getD bytes 0 0) i
+unfolding bitAt
+bitAt-first bytes i h =
+    let q : i / 8 ≡ 0 = omega arith in
+    let r : i % 8 ≡ i = omega arith in
+    rw (q, r)
+
+-- behind a first byte
+pub bitAt-after : (byte : ℕ) (bytes : List ℕ) (i : ℕ) → bitAt (byte ∷ bytes) (8 + i) ≡ bitAt bytes i
+unfolding bitAt
+bitAt-after byte bytes i =
+    let q : (8 + i) / 8 ≡ suc (i / 8) = omega arith in
+    let r : (8 + i) % 8 ≡ i % 8 = omega arith in
+    rw (q, r)
+
+-- without a first byte
+pub bitAt-drop : (bytes : List ℕ) (i : ℕ) → bitAt (drop 1 bytes) i ≡ bitAt bytes (8 + i)
+unfolding bitAt
+bitAt-drop [] i =
+    let r : (8 + i) % 8 ≡ i % 8 = omega arith in
+    rw r
+bitAt-drop (byte ∷ bytes) i = sym (bitAt-after byte bytes i)
+
 -- two lists of as many bytes with the same bits are the same list
 pub same-bits : (xs ys : List ℕ) → Bytes xs → Bytes ys → length xs ≡ length ys
     → ((i : ℕ) → i < 8 * length xs → bitAt xs i ≡ bitAt ys i) → xs ≡ ys
-unfolding byteOf
 same-bits xs ys hx hy long h =
     ext-getD 0 xs ys long
-    (λ j l. sym (byte-is (getD xs j 0) (hx j))
-    ∙ value-same (bitIn (getD xs j 0)) (bitIn (getD ys j 0)) 8
-    (λ i s. sym (bitAt-byte xs j i s) ∙ h (8 * j + i) (omega arith) ∙ bitAt-byte ys j i s)
-    ∙ byte-is (getD ys j 0) (hy j))
+    (λ j l. same-byte (getD xs j 0) (getD ys j 0) (hx j) (hy j)
+    (λ i s. sym (bitAt-byte xs j i s) ∙ h (8 * j + i) (omega arith) ∙ bitAt-byte ys j i s))
 
 -- ---- packed bits
 -- m bytes are packed

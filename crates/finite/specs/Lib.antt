@@ -8,4 +8,5 @@ pub mod Count
 pub mod Table
 pub mod Fill
 pub mod Put
+pub mod Copied
 pub mod Every

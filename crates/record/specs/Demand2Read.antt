@@ -1,23 +1,23 @@
 -- Demand 2 for records: "a record gives the only Baxter permutation that has it".
 use mathlib.Core.Path.{_≡_, refl, sym, ap, subst, _∙_}
-use mathlib.Core.Bool.{Bool, true, false, _&&_}
+use mathlib.Core.Bool.{Bool, true, false}
 use mathlib.Core.Logic.{_≢_, inl, inr}
 use mathlib.Core.List.{List, [], _∷_}
-use Prim.Native.Nat.{ℕ, zero, suc, _+_, _-_, _*_, _/_, _%_, _≤_, _<_}
+use Prim.Native.Nat.{ℕ, zero, suc, _+_, _-_, _*_, _≤_, _<_}
 use native.Mathlib.Omega.{arith}
-use borrow.Author.Tests.{ltb-true, ltb-false, le-ltb}
-use lib.Dec.{ltb}
+use borrow.Author.Tests.{le-ltb}
 use lib.ListN.{length, length-drop}
 use lib.Seq.{getD-drop}
 use Rattle.finite.specs.Search.{Some}
 use Rattle.bits.specs.Bit.{bitAt, Bytes, pack}
-use Rattle.bits.specs.Pack.{length-pack, bytes-pack, bitAt-pack, same-bits}
+use Rattle.bits.specs.Pack.{bitAt-pack}
 use Rattle.record.specs.Labels.{labelAt}
 use Rattle.record.specs.Barred.{Baxter}
 use Rattle.record.specs.Triple.{Triple, tripleAt}
 use Rattle.record.specs.Walk.{Counts, missing, counts, step, andThen, walk, Accepted}
-use Rattle.record.specs.Record.{bodyLength, tripleBit, bodyBit, tripleIn, recordOf}
+use Rattle.record.specs.Record.{bodyLength, bodyBit, tripleIn, recordOf}
 use Rattle.record.specs.Read.{kindOf, bodyOf, endOf, Missing, Several, labelsOf}
+use Rattle.record.specs.Body.{body-of-triples}
 use Rattle.record.specs.Checked.{Readable}
 use Rattle.record.specs.Demand2.{OnlyList, demand2-record-accepted, demand2-one-list, record-triple, record-length}
 
@@ -71,12 +71,6 @@ module _ (bytes : List ℕ) (all : Bytes bytes) (r : Readable bytes) where
   body-bytes : Bytes (bodyOf bytes)
   body-bytes i = subst (λ (x : ℕ). x < 256) (sym (getD-drop 1 bytes i 0)) (all (1 + i))
 
-  triple-bit : (k m i : ℕ) → m < 3 → 3 * k + m ≡ i → tripleBit (tripleIn (bodyOf bytes) (suc (suc k))) m ≡ bitAt (bodyOf bytes) i
-  triple-bit k zero i h e = ap (bitAt (bodyOf bytes)) (omega arith)
-  triple-bit k (suc zero) i h e = ap (bitAt (bodyOf bytes)) e
-  triple-bit k (suc (suc zero)) i h e = ap (bitAt (bodyOf bytes)) e
-  triple-bit k (suc (suc (suc m))) i h e = absurd (omega arith)
-
   no-spare : (i : ℕ) → 3 * n - 3 ≤ i → i < 8 * bodyLength n → bitAt (bodyOf bytes) i ≡ false
   no-spare i a b = go (bitAt (bodyOf bytes) i) refl
     where
@@ -85,21 +79,13 @@ module _ (bytes : List ℕ) (all : Bytes bytes) (r : Readable bytes) where
       go false e = refl
 
   body-back : pack (bodyBit (tripleAt (labelAt (labelsOf bytes))) n) (bodyLength n) ≡ bodyOf bytes
-  unfolding bodyBit
   body-back =
-      same-bits (pack bits (bodyLength n)) (bodyOf bytes) (bytes-pack bits (bodyLength n)) body-bytes (length-pack bits (bodyLength n) ∙ sym long)
-      (λ i h. let l : i < 8 * bodyLength n = omega (arith, length-pack bits (bodyLength n)) in bitAt-pack bits (bodyLength n) i l ∙ same i l (ltb i (3 * n - 3)) refl)
+      sym (subst (λ (m : ℕ). bodyOf bytes ≡ pack (bodyBit triples n) m) long
+      (body-of-triples triples n (bodyOf bytes) body-bytes (λ i a b. sym (one .has i a (omega (arith, one .size))))
+      (λ b a h. no-spare b a (omega (arith, long)))))
     where
-      bits : ℕ → Bool
-      bits = bodyBit (tripleAt (labelAt (labelsOf bytes))) n
-
-      same : (i : ℕ) → i < 8 * bodyLength n → (b : Bool) → ltb i (3 * n - 3) ≡ b → bits i ≡ bitAt (bodyOf bytes) i
-      same i h true e =
-          ap (λ (x : Bool). x && tripleBit (tripleAt (labelAt (labelsOf bytes)) (suc (suc (i / 3)))) (i % 3)) e
-          ∙ ap (λ (t : Triple). tripleBit t (i % 3)) (one .has (suc (suc (i / 3))) (omega arith) (omega (arith, one .size, ltb-true i (3 * n - 3) e))) ∙ triple-bit (i / 3) (i % 3) i (omega arith) (omega arith)
-      same i h false e =
-          ap (λ (x : Bool). x && tripleBit (tripleAt (labelAt (labelsOf bytes)) (suc (suc (i / 3)))) (i % 3)) e
-          ∙ sym (no-spare i (ltb-false i (3 * n - 3) e) h)
+      triples : ℕ → Triple
+      triples = tripleAt (labelAt (labelsOf bytes))
 
   split : bytes ≡ kindOf bytes ∷ bodyOf bytes
   split = go bytes some

@@ -15,6 +15,8 @@ pub mod Runs
 pub mod Decode
 pub mod Positions
 pub mod Read
+pub mod Body
+pub mod TripleNumber
 pub mod NextTo
 pub mod Rising
 pub mod Forward

@@ -7,7 +7,7 @@ use Rattle.record.specs.Triple.{Triple}
 use Rattle.record.specs.Way.{Way}
 use Rattle.record.specs.Decode.{lowerSize}
 use Rattle.record.specs.Positions.{newestMet}
-use Rattle.steps.specs.Turn.{tripleOf}
+use Rattle.record.specs.TripleNumber.{tripleOf}
 
 -- of each position after the first, in an array of 255, the number of its triple
 pub record Unpacked (triples : ℕ → Triple) (n : ℕ) (numbers : List ℕ) : Type 0 where

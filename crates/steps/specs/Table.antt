@@ -1,40 +1,25 @@
 -- The table of the walk in one line: of the runs that the new label meets below it and above it, those that it is joined to count no more.
 -- Where it lies above the current run, that run is one more below it; where it lies below, one more above it.
-use mathlib.Core.Bool.{Bool, true, false}
+use mathlib.Core.Bool.{true, false}
 use mathlib.Core.List.{List}
 use mathlib.Core.Logic.{inl, inr}
 use mathlib.Core.Path.{_≡_, refl, sym, ap, ap₂, _∙_}
-use Prim.Native.Nat.{ℕ, zero, suc, _+_, _*_, _≤_, _<_}
+use Prim.Native.Nat.{ℕ, zero, suc, _+_, _≤_, _<_}
 use native.Mathlib.Omega.{arith}
 use native.Mathlib.Nat.{add-zero}
 use lib.ListN.{getD, set, length-set}
 use lib.Seq.{getD-set-same, getD-set-other}
 use Rattle.finite.specs.Decide.{eq-or-ne}
-use Rattle.bits.specs.Bit.{bit, bitAt, groupAt}
+use Rattle.bits.specs.Bit.{bit}
 use Rattle.record.specs.Triple.{Triple, triple}
 use Rattle.record.specs.Walk.{Counts, missing, counts, step, andThen, walk}
 use Rattle.record.specs.Way.{up, down}
-use Rattle.record.specs.Record.{tripleIn}
+use Rattle.record.specs.TripleNumber.{tripleOf}
 use Rattle.record.specs.Decode.{bitsOf}
 use Rattle.steps.specs.declared.Turn.{Turn}
 use Rattle.steps.specs.Passes.{Unpacked}
-use Rattle.steps.specs.Turn.{Says, tripleOf, risesBy, fallsBy}
+use Rattle.steps.specs.Turn.{Says, risesBy, fallsBy}
 use Rattle.steps.specs.Counts.{less}
-
--- a body's group is its triple's number
-pub group-triple : (body : List ℕ) (k : ℕ) → tripleOf (groupAt body k) ≡ tripleIn body (suc (suc k))
-unfolding groupAt
-group-triple body k = go (bitAt body (3 * k)) (bitAt body (3 * k + 1)) (bitAt body (3 * k + 2))
-  where
-    go : (first second third : Bool) → tripleOf (4 * bit first + 2 * bit second + bit third) ≡ triple first second third
-    go false false false = refl
-    go false false true = refl
-    go false true false = refl
-    go false true true = refl
-    go true false false = refl
-    go true false true = refl
-    go true true false = refl
-    go true true true = refl
 
 -- one more triple is noted
 pub unpacked-next : {t : ℕ → Triple} {k : ℕ} {numbers : List ℕ} (x : ℕ) → Unpacked t (suc k) numbers → k < 254 → x < 8

@@ -1,23 +1,12 @@
--- A triple by its number 0 to 7, and what it says of the new label in numbers.
+-- What a triple says of the new label, in numbers.
 use mathlib.Core.Bool.{true, false}
 use mathlib.Core.Path.{_≡_}
-use Prim.Native.Nat.{ℕ, zero, suc}
+use Prim.Native.Nat.{ℕ}
 use Rattle.bits.specs.Bit.{bit}
 use Rattle.record.specs.Triple.{Triple, triple}
 use Rattle.record.specs.Way.{up, down}
 use Rattle.record.specs.Decode.{bitsOf}
 use Rattle.steps.specs.declared.Turn.{Turn}
-
--- the triple of a number, of which the first bit is worth 4; those past 7 are never asked for
-abbrev pub tripleOf : ℕ → Triple
-tripleOf zero = triple false false false
-tripleOf (suc zero) = triple false false true
-tripleOf (suc (suc zero)) = triple false true false
-tripleOf (suc (suc (suc zero))) = triple false true true
-tripleOf (suc (suc (suc (suc zero)))) = triple true false false
-tripleOf (suc (suc (suc (suc (suc zero))))) = triple true false true
-tripleOf (suc (suc (suc (suc (suc (suc zero)))))) = triple true true false
-tripleOf (suc (suc (suc (suc (suc (suc (suc n))))))) = triple true true true
 
 -- 1 where the label lies above the current run, and where it lies below it
 abbrev pub risesBy : Triple → ℕ

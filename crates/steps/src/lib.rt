@@ -2,8 +2,9 @@
 ghost use mathlib.Core.Path.{_≡_};
 ghost use Prim.Native.Nat.{_+_, _-_, _*_, _≤_, _<_};
 ghost use Rattle.record.specs.Walk.{step as tableStep};
+ghost use Rattle.record.specs.TripleNumber.{tripleOf};
 ghost use Rattle.steps.specs.Counts.{endCounts, lowered};
-ghost use Rattle.steps.specs.Turn.{Says, tripleOf};
+ghost use Rattle.steps.specs.Turn.{Says};
 
 // A byte as an index.
 pub fn wide(byte: u8) -> usize

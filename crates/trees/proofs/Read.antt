@@ -1,10 +1,10 @@
 -- The plan of a record that is read: its labels are those of a plan, and what is written of them is the record's tree.
-use mathlib.Core.List.{List, _++_}
+use mathlib.Core.List.{List}
 use mathlib.Core.Path.{_≡_, sym, ap, subst, _∙_}
 use Prim.Native.Nat.{ℕ, suc, _≤_, _<_}
 use native.Mathlib.Omega.{arith}
 use lib.ListN.{length, take, drop}
-use lib.Seq.{take-at, take-length}
+use lib.Seq.{take-at}
 use Rattle.finite.specs.Fill.{Filling}
 use Rattle.record.specs.Labels.{labelAt, EachOnce}
 use Rattle.record.specs.Decode.{labelOf}
@@ -60,9 +60,3 @@ module _ {bytes : List ℕ} {n : ℕ} (kind : n ≡ kindOf bytes) (readable : Re
 
       pub wrote-answer : size ≤ capacity → Wrote size ≡ treeAnswer bytes capacity
       wrote-answer h = ap Wrote (w .size) ∙ demand1-tree-answer bytes capacity (wrote readable (w .slicing) (λ l. omega (arith, w .size)))
-
--- the front of an array, copied to the front of a slice
-pub copied : (front before : List ℕ) {whole : List ℕ} {size : ℕ} → size ≡ length front → front ≡ whole
-    → take (length front) front ++ drop (length front) before ≡ whole ++ drop size before
-copied front before {whole} q e =
-    ap (λ (l : List ℕ). l ++ drop (length front) before) (take-length front ∙ e) ∙ ap (λ (k : ℕ). whole ++ drop k before) (sym q)

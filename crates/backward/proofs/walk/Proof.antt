@@ -7,7 +7,8 @@ use borrow.Author.Needs.{needs}
 use Rattle.record.specs.Record.{tripleIn}
 use Rattle.record.specs.Triple.{Triple}
 use Rattle.record.specs.Decode.{labelOf}
-use Rattle.steps.specs.Turn.{Says, tripleOf}
+use Rattle.record.specs.TripleNumber.{tripleOf}
+use Rattle.steps.specs.Turn.{Says}
 use Rattle.steps.specs.Table.{rises-small, falls-small}
 use Rattle.steps.specs.Told.{above-small, below-small}
 use Rattle.backward.proofs.Back.{Left, left-first, label-is, label-small, Turned, turned}

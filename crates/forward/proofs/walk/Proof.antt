@@ -7,12 +7,13 @@ use Rattle.record.specs.Triple.{Triple}
 use Rattle.record.specs.Walk.{missing, counts, step, walk}
 use Rattle.record.specs.Way.{up, down}
 use Rattle.record.specs.Record.{tripleIn}
-use Rattle.steps.specs.Turn.{Says, tripleOf}
+use Rattle.record.specs.TripleNumber.{tripleOf, group-triple}
+use Rattle.steps.specs.Turn.{Says}
 use Rattle.steps.specs.Passes.{Unpacked}
 use Rattle.steps.specs.Counts.{endCounts}
 use Rattle.forward.proofs.Count.{Counted, counted-first, size-few, walk-next, meets, small, turned}
 use Rattle.forward.proofs.Starts.{Placed, placed-first, placed-next}
-use Rattle.steps.specs.Table.{group-triple, unpacked-next, missing-on, rises-small, falls-small}
+use Rattle.steps.specs.Table.{unpacked-next, missing-on, rises-small, falls-small}
 use Rattle.steps.specs.Told.{above-small, below-small}
 use Rattle.forward.proofs.walk.Statement.{statement}
 use Rattle.forward.proofs.walk.Tie as tie

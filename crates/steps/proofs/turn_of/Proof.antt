@@ -3,8 +3,9 @@ use mathlib.Core.Path.{refl, subst}
 use Prim.Native.Nat.{ℕ, zero, suc, _-_, _/_, _^_, _<_}
 use native.Mathlib.Omega.{arith}
 use lib.Bits.{bitAnd, mask-lt}
+use Rattle.record.specs.TripleNumber.{tripleOf}
 use Rattle.steps.specs.declared.Turn.{Turn}
-use Rattle.steps.specs.Turn.{Says, tripleOf}
+use Rattle.steps.specs.Turn.{Says}
 use Rattle.steps.proofs.turn_of.Statement.{statement}
 use Rattle.steps.proofs.turn_of.Tie as tie
 

@@ -10,7 +10,8 @@ use Rattle.record.specs.Labels.{labelAt}
 use Rattle.record.specs.Read.{kindOf, labelsOf}
 use Rattle.slicing.specs.declared.TreeAnswer.the-variants.{Refused}
 use Rattle.trees.specs.Written.{TreeWritten, Writes}
-use Rattle.trees.proofs.Read.{as-many, plan-read, writes-plan, not-slicing-answer, short-answer, wrote-answer, copied}
+use Rattle.finite.specs.Copied.{copied}
+use Rattle.trees.proofs.Read.{as-many, plan-read, writes-plan, not-slicing-answer, short-answer, wrote-answer}
 use borrow.Author.Needs.{needs}
 use Rattle.trees.proofs.tree.Statement.{statement}
 use Rattle.trees.proofs.tree.Tie as tie
