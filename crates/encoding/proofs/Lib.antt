@@ -1,6 +1,6 @@
 -- Laws that the functions' proofs cite.
-pub mod Choose
-pub mod Body
+pub mod Part
+pub mod Partly
 pub mod Stack
 pub mod Passed
 pub mod Turn

@@ -3,34 +3,36 @@
 use mathlib.Core.Bool.{Bool, true, false}
 use mathlib.Core.List.{List}
 use mathlib.Core.Logic.{_≢_, inl, inr}
-use mathlib.Core.Path.{_≡_, refl, sym, ap, subst, _∙_}
-use Prim.Native.Nat.{ℕ, zero, suc, _+_, _-_, _≤_, _<_}
+use mathlib.Core.Path.{_≡_, refl, sym, ap, subst, subst₂, _∙_}
+use Prim.Native.Nat.{ℕ, zero, suc, _+_, _-_, _*_, _≤_, _<_}
 use native.Mathlib.Omega.{arith}
 use native.Mathlib.Decide.{decLt}
-use borrow.Author.Tests.{lt-ltb, le-ltb, ltb-true, ltb-false}
+use borrow.Author.Tests.{lt-ltb, le-ltb}
 use lib.Dec.{ltb}
-use lib.ListN.{length, getD, set, length-set, replicate, length-replicate}
-use Rattle.bits.specs.Bit.{bit, GroupSet, pack}
+use lib.ListN.{length, getD, set, take as takeFirst, length-set, replicate, length-replicate}
+use Rattle.bits.specs.Bit.{bit}
 use Rattle.finite.specs.Decide.{le-or-lt, Tells, holds-tells}
 use Rattle.record.specs.declared.Label.{Label}
 use Rattle.record.specs.Labels.{labelAt, LabelOutside, LabelTwice, EachOnce}
 use Rattle.record.specs.Barred.{Baxter}
 use Rattle.record.specs.Triple.{Triple, triple, dec-earlier, tripleAt}
-use Rattle.record.specs.Record.{bodyBit}
+use Rattle.record.specs.TripleNumber.{tripleOf, triple-of-bits}
+use Rattle.record.specs.TripleSet.{TripleSet}
+use Rattle.record.specs.Record.{recordOf}
 use Rattle.record.specs.Way.{Way, up, down, Past}
 use Rattle.record.specs.Runs.{Runs, Inside, ahead, Before, Step, reach-chained, one-way, fresh-past, chained-free}
 use Rattle.record.specs.Decode.{bitsOf, turnOf}
 use Rattle.record.specs.NextTo.{Seen, NextTo, not-barred-next, next-not-barred}
 use Rattle.record.specs.Forward.{Takes, leave, take, joined-takes, triple-turn, runsOf, Stage, stage-first, step-stage, free-step}
 use Rattle.record.specs.Demand2.{each-once}
-use Rattle.encoding.specs.Encoded.{Encoded, blocked}
-use Rattle.encoding.specs.Picks.{Picks, none, Nearest, inside-within, not-past-before, past-not-before}
+use Rattle.encoding.specs.Encoded.{Encoded, pastRuns}
+use Rattle.encoding.specs.Picks.{Picks, none, Nearest, inside-within, not-past-current-before, not-past-before, past-not-before}
 use Rattle.encoding.specs.Marks.{Marks, marks-none, marks-more, mark-tells}
 use Rattle.encoding.proofs.Stack.{labelIn, stackOf, nearest-of, label-kept, picks-ahead, picks-take}
-use Rattle.encoding.proofs.Body.{Partly, tripleNumber, partly-none, partly-more, partly-all}
+use Rattle.encoding.proofs.Partly.{Partly, partly-none, partly-more, partly-all}
 
 -- after k triples, that is, k + 1 labels
-pub record Passed (labels : List ℕ) (k : ℕ) (seen : List ℕ) (below above : List Label) (p q : ℕ) (last : ℕ) (body : List ℕ) : Type 0 where
+pub record Passed (labels : List ℕ) (k : ℕ) (seen : List ℕ) (below above : List Label) (p q : ℕ) (last : ℕ) (written : List ℕ) : Type 0 where
   pub within : k < length labels
   pub last-is : last ≡ labelAt labels (suc k)
   pub stage : Stage (labelAt labels) k (runsOf (labelAt labels) k)
@@ -47,7 +49,7 @@ pub record Passed (labels : List ℕ) (k : ℕ) (seen : List ℕ) (below above :
   pub above-long : length above ≡ 255
   pub seen-long : length seen ≡ 257
   pub marks : Marks seen (labelAt labels) (suc (suc k))
-  pub partly : Partly (tripleAt (labelAt labels)) k body
+  pub partly : Partly (tripleAt (labelAt labels)) (length labels) k written
 
 -- ---- a step's counts
 toward : (turn way : Way) → ℕ
@@ -85,26 +87,24 @@ unfolding toward
 toward-up (triple a b false) = refl
 toward-up (triple a b true) = refl
 
--- ---- the test for a label past the nearest run
+-- a triple's number
+numbered : (t : Triple) → tripleOf (4 * bit (bitsOf t up) + 2 * bit (bitsOf t down) + bit (falls t)) ≡ t
+numbered (triple first second third) = triple-of-bits first second third
+
+-- ---- the labels to which a new one is compared, and the two tests
 abbrev nearest : (lo hi : ℕ) → Way → ℕ
 nearest lo hi up = hi
 nearest lo hi down = lo
 
-blocked-tells : (last v lo hi : ℕ) (t : Triple) → Tells (falls t) (v < last) → Tells (blocked last v lo hi) (Past (turnOf t) (nearest lo hi (turnOf t)) v)
-blocked-tells last v lo hi (triple a b true) h = rw (lt-ltb v last h) (go (ltb v lo) refl)
-  where
-    go : (x : Bool) → ltb v lo ≡ x → Tells x (Past down lo v)
-    go true e = record { less = ltb-true v lo e }
-    go false e = λ p. omega (arith, ltb-false v lo e)
-blocked-tells last v lo hi (triple a b false) h = let l : last ≤ v = omega arith in rw (le-ltb v last l) (go (ltb hi v) refl)
-  where
-    go : (x : Bool) → ltb hi v ≡ x → Tells x (Past up hi v)
-    go true e = record { less = ltb-true hi v e }
-    go false e = λ p. omega (arith, ltb-false hi v e)
+bit-of-not-less : (x y : ℕ) → ¬ (x < y) → bit (ltb x y) ≡ 0
+bit-of-not-less x y n = let l : y ≤ x = omega arith in ap bit (le-ltb x y l)
+
+no-bit→not-less : (x y : ℕ) → bit (ltb x y) ≡ 0 → ¬ (x < y)
+no-bit→not-less x y e h = omega (arith, ap bit (lt-ltb x y h))
 
 -- ---- one turn
-module _ {labels : List ℕ} {k : ℕ} {seen : List ℕ} {below above : List Label} {p q last : ℕ} {body : List ℕ} (s : Passed labels k seen below above p q last body)
-    (more : k + 1 < length labels) (few : length labels ≤ 255) (inside : ¬ LabelOutside labels) where
+module _ {labels : List ℕ} {k : ℕ} {seen : List ℕ} {below above : List Label} {p q last : ℕ} {written : List ℕ}
+    (s : Passed labels k seen below above p q last written) (more : k + 1 < length labels) (few : length labels ≤ 255) (inside : ¬ LabelOutside labels) where
   abbrev f : ℕ → ℕ
   f = labelAt labels
 
@@ -148,12 +148,26 @@ module _ {labels : List ℕ} {k : ℕ} {seen : List ℕ} {below above : List Lab
   near up = nearest-of above q (λ l. omega (arith, s .ceiling, label)) (s .picks-above)
   near down = nearest-of below p (λ l. omega (arith, s .floor, label)) (s .picks-below)
 
-  past-tells : Tells (blocked last v (labelIn below p) (labelIn above q)) (Past (turnOf t) (nearest (labelIn below p) (labelIn above q) (turnOf t)) v)
-  past-tells = blocked-tells last v (labelIn below p) (labelIn above q) t falls-tells
+  -- the label lies before the nearest run on each side if it does so on the side to which it turns
+  before-each : Before (turnOf t) v (z .stack (turnOf t)) → (way : Way) → Before way v (z .stack way)
+  before-each = go t falls-tells
+    where
+      behind : (way : Way) → ¬ Past way last v → Before way v (z .stack way)
+      behind way n = not-past-current-before (s .stage .faithful) (subst (Inside z) (sym (s .last-is)) (s .stage .inside)) n
+
+      go : (t : Triple) → Tells (falls t) (v < last) → Before (turnOf t) v (z .stack (turnOf t)) → (way : Way)
+          → Before way v (z .stack way)
+      go (triple a b true) h free down = free
+      go (triple a b true) h free up = behind up (λ p. omega arith)
+      go (triple a b false) h free up = free
+      go (triple a b false) h free down = behind down (λ p. omega arith)
 
   -- a label that is turned away: seen before, or past the nearest run
-  pub turned-away : (r : ℕ) → r ≡ bit (blocked last v (labelIn below p) (labelIn above q)) → r + getD seen v 0 ≢ 0 → ¬ Baxter labels
-  turned-away r e away b = go (blocked last v (labelIn below p) (labelIn above q)) e past-tells
+  pub turned-away : (r : ℕ) → r ≡ pastRuns v (labelIn below p) (labelIn above q) → r + getD seen v 0 ≢ 0 → ¬ Baxter labels
+  turned-away r e away b =
+      let under = bit-of-not-less v (labelIn below p) (λ l. not-past down (record { less = l })) in
+      let over = bit-of-not-less (labelIn above q) v (λ l. not-past up (record { less = l })) in
+      away (omega (arith, unseen, under, over))
     where
       fresh : ¬ Seen f (suc k) v
       fresh (i, c, d, h) = omega (arith, b .each-once .once i (suc (suc k)) c (omega arith) (omega arith) (omega arith) h)
@@ -163,22 +177,25 @@ module _ {labels : List ℕ} {k : ℕ} {seen : List ℕ} {below above : List Lab
           let n : getD seen v 0 ≢ 1 = λ h. fresh (m .0 h) in
           omega (arith, m .2)
 
-      go : (x : Bool) → r ≡ bit x → Tells x (Past (turnOf t) (nearest (labelIn below p) (labelIn above q) (turnOf t)) v) → ⊥
-      go false h tell = omega (arith, unseen)
-      go true h tell = past-not-before (near (turnOf t)) tell
-          (chained-free (s .stage .faithful) (s .stage .inside) fresh (not-barred-next f (length labels) (b .each-once) (b .not-barred) (suc k) (omega arith) (omega arith) (turnOf t)))
+      free : Before (turnOf t) v (z .stack (turnOf t))
+      free =
+          chained-free (s .stage .faithful) (s .stage .inside) fresh
+          (not-barred-next f (length labels) (b .each-once) (b .not-barred) (suc k) (omega arith) (omega arith) (turnOf t))
+
+      not-past : (way : Way) → ¬ Past way (nearest (labelIn below p) (labelIn above q) way) v
+      not-past way past = past-not-before (near way) past (before-each free way)
 
   -- ---- a label that is taken
-  module _ (r : ℕ) (r-is : r ≡ bit (blocked last v (labelIn below p) (labelIn above q))) (stays : r + getD seen v 0 ≡ 0) where
+  module _ (r : ℕ) (r-is : r ≡ pastRuns v (labelIn below p) (labelIn above q)) (stays : r + getD seen v 0 ≡ 0) where
     taken-fresh : ¬ Seen f (suc k) v
     taken-fresh = mark-tells (dec-earlier f v (suc (suc k))) (getD seen v 0) (s .marks v (omega (arith, label))) .1 (omega arith)
 
+    not-past : (way : Way) → ¬ Past way (nearest (labelIn below p) (labelIn above q) way) v
+    not-past up past = no-bit→not-less (labelIn above q) v (omega arith) (past .less)
+    not-past down past = no-bit→not-less v (labelIn below p) (omega arith) (past .less)
+
     free : Before (turnOf t) v (z .stack (turnOf t))
-    free = not-past-before (s .stage .faithful) taken-fresh (near (turnOf t)) (go (blocked last v (labelIn below p) (labelIn above q)) r-is past-tells)
-      where
-        go : (x : Bool) → r ≡ bit x → Tells x (Past (turnOf t) (nearest (labelIn below p) (labelIn above q) (turnOf t)) v) → ¬ Past (turnOf t) (nearest (labelIn below p) (labelIn above q) (turnOf t)) v
-        go true e tell = absurd (omega arith)
-        go false e tell = tell
+    free = not-past-before (s .stage .faithful) taken-fresh (near (turnOf t)) (not-past (turnOf t))
 
     taken : Step (turnOf t) (bitsOf t) v z (runsOf f (suc k))
     unfolding runsOf
@@ -208,10 +225,12 @@ module _ {labels : List ℕ} {k : ℕ} {seen : List ℕ} {below above : List Lab
         subst (λ (m : ℕ). Picks way (stackOf (set stack (h + 1) x) m) (runsOf f (suc k) .stack way)) (sym e)
         (picks-take (set stack (h + 1) x) (joined-takes (taken .joins way)) (picks-ahead (turnOf t) way z stack h x room size picks w))
 
-    pub taken-passed : (p-after q-after : ℕ) (body-after : List ℕ) → p-after + (bit (falls t) + bit (bitsOf t down)) ≡ p + 1 → q-after + (1 - bit (falls t) + bit (bitsOf t up)) ≡ q + 1
-        → GroupSet body body-after k (tripleNumber t)
-        → Passed labels (suc k) (set seen v 1) (set below (p + 1) (record { 0 = last })) (set above (q + 1) (record { 0 = last })) p-after q-after v body-after
-    taken-passed p-after q-after body-after pe qe g = record {
+    pub taken-passed : (p-after q-after : ℕ) (after : List ℕ)
+        → p-after + (bit (falls t) + bit (bitsOf t down)) ≡ p + 1 → q-after + (1 - bit (falls t) + bit (bitsOf t up)) ≡ q + 1
+        → TripleSet written after (k + 2) (tripleOf (4 * bit (bitsOf t up) + 2 * bit (bitsOf t down) + bit (falls t)))
+        → Passed labels (suc k) (set seen v 1) (set below (p + 1) (record { 0 = last })) (set above (q + 1) (record { 0 = last }))
+        p-after q-after v after
+    taken-passed p-after q-after after pe qe is-set = record {
       within = omega arith;
       last-is = refl;
       stage = step-stage f k (s .stage) taken;
@@ -228,9 +247,13 @@ module _ {labels : List ℕ} {k : ℕ} {seen : List ℕ} {below above : List Lab
       above-long = length-set above (q + 1) (record { 0 = last }) ∙ s .above-long;
       seen-long = length-set seen v 1 ∙ s .seen-long;
       marks = marks-more seen f (suc (suc k)) (s .seen-long) (omega arith) (omega (arith, label)) (s .marks);
-      partly = partly-more (tripleAt f) k body body-after (s .partly) g;
+      partly = partly-more (tripleAt f) (length labels) k written after (s .partly)
+          (subst₂ (TripleSet written after) position (numbered t) is-set);
     }
       where
+        position : k + 2 ≡ suc (suc k)
+        position = omega arith
+
         below-size : p-after ≡ length (runsOf f (suc k) .stack down)
         below-size = omega (arith, height down, toward-down t, s .count-below)
 
@@ -238,10 +261,11 @@ module _ {labels : List ℕ} {k : ℕ} {seen : List ℕ} {below above : List Lab
         above-size = omega (arith, height up, toward-up t, s .count-above)
 
 -- ---- the start and the end
-pub passed-first : (labels body : List ℕ) → 1 ≤ length labels → length labels ≤ 255 → ¬ LabelOutside labels → body ≡ replicate 96 0
-    → Passed labels 0 (set (replicate 257 0) (labelAt labels 1) 1) (replicate 255 (record { 0 = 0 })) (replicate 255 (record { 0 = 255 })) 0 0 (labelAt labels 1) body
+pub passed-first : (labels before : List ℕ) → 1 ≤ length labels → length labels ≤ 255 → ¬ LabelOutside labels → before ≡ replicate 97 0
+    → Passed labels 0 (set (replicate 257 0) (labelAt labels 1) 1) (replicate 255 (record { 0 = 0 })) (replicate 255 (record { 0 = 255 }))
+    0 0 (labelAt labels 1) (set before 0 (length labels))
 unfolding runsOf stackOf
-passed-first labels body some few inside e = record {
+passed-first labels before some few inside e = record {
   within = some;
   last-is = refl;
   stage = stage-first (labelAt labels) (runsOf (labelAt labels) 0) (λ way. refl) (λ way. refl);
@@ -258,15 +282,17 @@ passed-first labels body some few inside e = record {
   above-long = length-replicate {A = Label} 255 (record { 0 = 255 });
   seen-long = length-set (replicate 257 0) (labelAt labels 1) 1 ∙ length-replicate {A = ℕ} 257 0;
   marks = marks-more (replicate 257 0) (labelAt labels) 1 (length-replicate {A = ℕ} 257 0) (omega arith) small (marks-none (labelAt labels));
-  partly = partly-none (tripleAt (labelAt labels)) body e;
+  partly = subst (λ (bytes : List ℕ). Partly (tripleAt (labelAt labels)) (length labels) 0 (set bytes 0 (length labels))) (sym e)
+      (partly-none (tripleAt (labelAt labels)) (length labels) few);
 }
   where
     small : labelAt labels 1 < 257
     small = let hi : ¬ (length labels < labelAt labels 1) = λ h. inside (1, omega arith, omega arith, inr h) in omega arith
 
-pub passed-all : (labels : List ℕ) (k : ℕ) (seen : List ℕ) (below above : List Label) (p q last : ℕ) (body : List ℕ) → Passed labels k seen below above p q last body → length labels ≡ suc k → ¬ LabelOutside labels
-    → Encoded true labels body
-passed-all labels k seen below above p q last body s e inside = (record { each-once = each; not-barred = next-not-barred (labelAt labels) (length labels) each (λ j a b. s .next j a (omega arith)) }, full)
+pub passed-all : (labels : List ℕ) (k : ℕ) (seen : List ℕ) (below above : List Label) (p q last : ℕ) (written : List ℕ)
+    → Passed labels k seen below above p q last written → length labels ≡ suc k
+    → length labels ≤ 255 → ¬ LabelOutside labels → Encoded true labels written
+passed-all labels k seen below above p q last written s e few inside = (baxter, s .partly .long, front)
   where
     each : EachOnce (labelAt labels) (length labels)
     each = each-once labels inside single
@@ -275,5 +301,10 @@ passed-all labels k seen below above p q last body s e inside = (record { each-o
         single (zero, a, b, h) = omega arith
         single (suc j, a, b, h) = s .fresh j (omega arith) h
 
-    full : body ≡ pack (bodyBit (tripleAt (labelAt labels)) (length labels)) 96
-    full = let h : k ≡ length labels - 1 = omega arith in partly-all (tripleAt (labelAt labels)) (length labels) body (subst (λ (j : ℕ). Partly (tripleAt (labelAt labels)) j body) h (s .partly))
+    baxter : Baxter labels
+    baxter = record { each-once = each; not-barred = next-not-barred (labelAt labels) (length labels) each (λ j a b. s .next j a (omega arith)) }
+
+    front : takeFirst (length (recordOf labels)) written ≡ recordOf labels
+    front =
+        let h : k ≡ length labels - 1 = omega arith in
+        partly-all labels written few (subst (λ (j : ℕ). Partly (tripleAt (labelAt labels)) (length labels) j written) h (s .partly))

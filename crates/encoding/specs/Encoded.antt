@@ -1,21 +1,19 @@
 -- What the functions of this crate say to one another.
-use mathlib.Core.Bool.{Bool, true, false, cond}
+use mathlib.Core.Bool.{Bool, true, false}
 use mathlib.Core.List.{List}
 use mathlib.Core.Path.{_≡_}
-use Prim.Native.Nat.{ℕ}
+use Prim.Native.Nat.{ℕ, _+_}
 use lib.Dec.{ltb}
-use lib.ListN.{length}
-use Rattle.bits.specs.Bit.{pack}
-use Rattle.record.specs.Labels.{labelAt}
+use lib.ListN.{length, take}
+use Rattle.bits.specs.Bit.{bit}
 use Rattle.record.specs.Barred.{Baxter}
-use Rattle.record.specs.Triple.{tripleAt}
-use Rattle.record.specs.Record.{bodyBit}
+use Rattle.record.specs.Record.{recordOf}
 
--- a label that follows `last` is past the nearest run on its side, of which `below` or `above` is a label
-abbrev pub blocked : (last label below above : ℕ) → Bool
-blocked last label below above = cond (ltb label last) (ltb label below) (ltb above label)
+-- on how many sides a label is past the nearest run, of which `below` or `above` is a label
+abbrev pub pastRuns : (label below above : ℕ) → ℕ
+pastRuns label below above = bit (ltb label below) + bit (ltb above label)
 
--- the list is Baxter and the body has the bits of its triples; or it is not Baxter
-abbrev pub Encoded : Bool → (labels body : List ℕ) → Type 0
-Encoded true labels body = Baxter labels × (body ≡ pack (bodyBit (tripleAt (labelAt labels)) (length labels)) 96)
-Encoded false labels body = ¬ Baxter labels
+-- the list is Baxter, and its record stands at the front of the 97 bytes that were written; or it is not Baxter
+abbrev pub Encoded : Bool → (labels written : List ℕ) → Type 0
+Encoded true labels written = Baxter labels × (length written ≡ 97) × (take (length (recordOf labels)) written ≡ recordOf labels)
+Encoded false labels written = ¬ Baxter labels

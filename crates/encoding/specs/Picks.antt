@@ -4,7 +4,7 @@ use mathlib.Core.Path.{sym, subst}
 use Prim.Native.Nat.{ℕ}
 use Rattle.record.specs.Way.{Way, other, Past, past-trans, past-not-self, past-turn, Order, before, same, after, order}
 use Rattle.record.specs.Sides.{Run, Side, last, more}
-use Rattle.record.specs.Runs.{Runs, Faithful, Inside, currentRun, Before, no-run, first-run}
+use Rattle.record.specs.Runs.{Runs, Faithful, Inside, inside-past, currentRun, Before, no-run, first-run}
 
 -- y is one of the labels of the run r
 pub record Within (way : Way) (y : ℕ) (r : Run) : Type 0 where
@@ -24,6 +24,20 @@ pub data Nearest (way : Way) (y v : ℕ) : List Run → Type 0 where
 -- the newest label is one of the current run's
 pub inside-within : (z : Runs) (c : ℕ) → Inside z c → (way : Way) → Within way c (currentRun z way)
 inside-within z c inside way = record { not-before = λ p. inside (other way) (past-turn p); not-after = inside way }
+
+-- a label that is not past a label of the current run lies before the nearest run on that side
+pub not-past-current-before : {S : ℕ → Type 0} {z : Runs} {way : Way} {c v : ℕ} → Faithful S z → Inside z c → ¬ Past way c v
+    → Before way v (z .stack way)
+not-past-current-before {S} {z} {way} {c} {v} k inside not-past = go (k .sides way)
+  where
+    past : (near : ℕ) → Past way c near → Order way c v → Past way v near
+    past near p (before q) = absurd (not-past q)
+    past near p (same e) = subst (λ (x : ℕ). Past way x near) e p
+    past near p (after q) = past-trans q p
+
+    go : {rs : List Run} → Side S way (z .edge way) rs → Before way v rs
+    go (last f) = no-run
+    go (more {r = r} n a s) = first-run (past (r .near) (inside-past z way inside (n .past)) (order way c v))
 
 module _ {S : ℕ → Type 0} {z : Runs} (k : Faithful S z) {turn : Way} {v y : ℕ} where
   -- a fresh label that is not past y lies before the nearest run

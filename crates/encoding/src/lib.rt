@@ -1,47 +1,57 @@
-// The triples of a label list in one pass, which also finds whether the list is Baxter.
+// The record of a label list in one pass, which also finds whether the list is Baxter.
 ghost use mathlib.Core.Path.{_≡_};
-ghost use Prim.Native.Nat.{_+_, _≤_};
+ghost use Prim.Native.Nat.{_+_, _-_, _*_, _≤_, _<_};
 ghost use lib.ListN.{length, replicate};
 ghost use Rattle.bits.specs.Bit.{bit};
 ghost use Rattle.record.specs.Labels.{LabelOutside};
-ghost use Rattle.encoding.specs.Encoded.{Encoded, blocked};
+ghost use Rattle.record.specs.TripleNumber.{tripleOf};
+ghost use Rattle.record.specs.TripleSet.{TripleSet};
+ghost use Rattle.encoding.specs.Encoded.{Encoded, pastRuns};
 use record::Label;
 
 // 1 where the test holds, else 0.
-fn one_if(test: bool) -> u8
+fn one_if(test: bool) -> usize
     ensures { λ r. ⌜ (r ≡ bit test) × (r ≤ 1) ⌝ }
 {
     if test { 1 } else { 0 }
 }
 
-// 1 where a label that follows `last` is past the nearest run on its side, else 0.
-fn past_run(last: Label, label: Label, below: Label, above: Label) -> u8
-    ensures { λ r. ⌜ (r ≡ bit (blocked (last .0) (label .0) (below .0) (above .0))) × (r ≤ 1) ⌝ }
+// On how many sides the label is past the nearest run. It can be so only on the side to which it turns, and there is no need to ask
+// which side that is.
+fn past_runs(label: Label, below: Label, above: Label) -> usize
+    ensures { λ r. ⌜ (r ≡ pastRuns (label .0) (below .0) (above .0)) × (r ≤ 2) ⌝ }
 {
-    let falls = one_if(label.0 < last.0);
-    let under = one_if(label.0 < below.0);
-    let over = one_if(above.0 < label.0);
-    falls * under + (1 - falls) * over
+    one_if(label.0 < below.0) + one_if(above.0 < label.0)
 }
 
 // How many runs lie on one side after a step: one more, less one for a step toward that side, less one that the label is joined to.
-fn runs_after(runs: usize, toward: u8, joined: u8) -> usize
+fn runs_after(runs: usize, toward: usize, joined: usize) -> usize
     requires { ⌜ (toward + joined ≤ runs + 1) × (runs ≤ 255) ⌝ }
     ensures { λ r. ⌜ r + (toward + joined) ≡ runs + 1 ⌝ }
 {
-    runs + 1 - toward as usize - joined as usize
+    runs + 1 - toward - joined
 }
 
-// The triples of the labels into the body, three bits each, in one pass with the other runs in two stacks: of each run one label is
-// kept. False where the list is not Baxter: a label was seen before, or it lies past the nearest run on its side. The two stacks
-// start with a label that no label lies past. Each turn pushes the last label on both; the counts of runs say how much of a stack is
-// in use.
-pub fn encode(labels: &[u8], body: &mut [u8; 96]) -> bool
+// Sets the triple of a position from 2 on, a number from 0 to 7, in a record: its three bits, in the bytes that have them.
+fn set_triple(record: &mut [u8], position: usize, triple: u8)
+    requires { ⌜ (2 ≤ position) × (8 + 3 * (position - 2) + 3 ≤ 8 * length (now «record»)) × (length (now «record») ≤ 97) ⌝
+        ∗ ⌜ triple < 8 ⌝ }
+    ensures { λ _. ⌜ TripleSet (now («record» .entry)) (now («record» .exit)) position (tripleOf triple) ⌝ }
+{
+    bits::set_group(&mut record[1..], position - 2, triple);
+}
+
+// The record of the labels, from the front of a record slice of zeros, in one pass with the other runs in two stacks: of each run one
+// label is kept. False where the list is not Baxter: a label was seen before, or it lies past the nearest run on its side. The two
+// stacks start with a label that no label lies past. Each turn pushes the last label on both; the counts of runs say how much of a
+// stack is in use.
+pub fn encode(labels: &[u8], record: &mut [u8]) -> bool
     requires { ⌜ (1 ≤ length (now labels)) × (length (now labels) ≤ 255) ⌝ ∗ ⌜ (LabelOutside (now labels) → ⊥) ⌝
-        ∗ ⌜ now body ≡ replicate 96 0 ⌝ }
-    ensures { λ r. ⌜ Encoded r (now (labels .entry)) (now (body .exit)) ⌝ }
+        ∗ ⌜ now «record» ≡ replicate 97 0 ⌝ }
+    ensures { λ r. ⌜ Encoded r (now (labels .entry)) (now («record» .exit)) ⌝ }
 {
     let n = labels.len();
+    record[0] = n as u8;
     let mut seen = [0u8; 257];
     let mut below = [Label(0); 255];
     let mut above = [Label(255); 255];
@@ -56,17 +66,18 @@ pub fn encode(labels: &[u8], body: &mut [u8; 96]) -> bool
         let at = label.index();
         let next_below = below[runs_below];
         let next_above = above[runs_above];
-        if past_run(last, label, next_below, next_above) + seen[at] != 0 {
+        if past_runs(label, next_below, next_above) + seen[at] as usize != 0 {
             return false;
         }
-        let first_bit = seen[at + 1];
-        let second_bit = seen[at - 1];
+        let first_bit = seen[at + 1] as usize;
+        let second_bit = seen[at - 1] as usize;
         let third_bit = one_if(label.0 < last.0);
         below[runs_below + 1] = last;
         above[runs_above + 1] = last;
         runs_below = runs_after(runs_below, third_bit, second_bit);
         runs_above = runs_after(runs_above, 1 - third_bit, first_bit);
-        bits::set_group(body, k, 4 * first_bit + 2 * second_bit + third_bit);
+        let triple = 4 * first_bit + 2 * second_bit + third_bit;
+        set_triple(record, k + 2, triple as u8);
         seen[at] = 1;
         last = label;
         k += 1;

@@ -1,6 +1,4 @@
 -- Laws that the functions' proofs cite.
 pub mod Not
 pub mod Found
-pub mod Front
-pub mod Written
 pub mod Answered

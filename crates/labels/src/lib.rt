@@ -1,9 +1,8 @@
 // Labels in: a label list becomes its record, or is refused with 1, 6, 7, 8 or 15, in this order. And the verdict on a label list
 // alone: 1, 6, 7, 8 or sound.
-ghost use mathlib.Core.List.{_∷_, _++_};
 ghost use mathlib.Core.Path.{_≡_};
-ghost use Prim.Native.Nat.{_+_, _≤_};
-ghost use lib.ListN.{length, drop};
+ghost use Prim.Native.Nat.{_≤_};
+ghost use lib.ListN.{length};
 ghost use Rattle.finite.specs.Decide.{Tells};
 ghost use Rattle.record.specs.Labels.{LabelOutside, LabelTwice};
 ghost use Rattle.record.specs.Answer.{LabelsIn};
@@ -59,21 +58,6 @@ fn twice(labels: &[u8]) -> bool
     false
 }
 
-// Writes the kind byte and the body from the front of the record, which has the room, and leaves the rest of it.
-fn write_record(kind: u8, body: &[u8], record: &mut [u8])
-    requires { ⌜ 1 + length (now body) ≤ length (now «record») ⌝ }
-    ensures { λ _. ⌜ now («record» .exit)
-        ≡ (kind ∷ now (body .entry)) ++ drop (1 + length (now (body .entry))) (now («record» .entry)) ⌝ }
-{
-    let n = body.len();
-    let mut i = 0;
-    while i < n {
-        record[1 + i] = body[i];
-        i += 1;
-    }
-    record[0] = kind;
-}
-
 // The record of a label list, from the front of the record slice, and its length; or the refusal, and the slice as it was.
 pub fn labels_in(labels: &[u8], record: &mut [u8]) -> LabelsAnswer
     ensures { λ r. ⌜ LabelsIn (now (labels .entry)) (now («record» .entry)) r (now («record» .exit)) ⌝ }
@@ -88,19 +72,19 @@ pub fn labels_in(labels: &[u8], record: &mut [u8]) -> LabelsAnswer
     if outside(labels) {
         return LabelsAnswer::Refused(Refusal::LabelOutside);
     }
-    let mut body = [0u8; 96];
-    if !encoding::encode(labels, &mut body) {
+    let mut written = [0u8; 97];
+    if !encoding::encode(labels, &mut written) {
         if twice(labels) {
             return LabelsAnswer::Refused(Refusal::LabelTwice);
         }
         return LabelsAnswer::Refused(Refusal::BarredPattern);
     }
-    let size = (3 * n - 3 + 7) / 8;
-    if record.len() <= size {
+    let size = 1 + (3 * n - 3 + 7) / 8;
+    if record.len() < size {
         return LabelsAnswer::Refused(Refusal::ShortOutput);
     }
-    write_record(n as u8, &body[..size], record);
-    LabelsAnswer::Wrote(1 + size)
+    bytes::copy(&written[..size], record);
+    LabelsAnswer::Wrote(size)
 }
 
 // The verdict on a label list, for calls that take labels in another form. The causes are looked for by Labels in and nowhere else:

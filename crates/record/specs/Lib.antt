@@ -28,4 +28,8 @@ pub mod Demand1
 pub mod Demand2
 pub mod Checked
 pub mod Demand2Read
+-- A triple set in a record
+pub mod TripleSet
+pub mod M104
+-- Worked plans
 pub mod Worked

@@ -2,7 +2,7 @@
 
 use compare::records::record_length;
 use compare::Tally;
-use reference::cases::walk::{biased_list, mostly_small_count, some_count, Walked};
+use reference::cases::walk::{biased_list, mostly_small_count, random_list, some_count, Walked};
 use reference::Refusal;
 
 /// Compares a list whose record is that of its walk.
@@ -65,6 +65,26 @@ fn lists_with_as_many_runs_as_there_can_be() {
         tally.expect_refusal(&walked.labels, 97, Refusal::BarredPattern);
     }
     tally.finish(2 * 3 + 2);
+}
+
+#[test]
+fn every_bit_of_the_longest_record_is_0_in_one_list_and_1_in_another() {
+    const LISTS: usize = 500;
+    let mut cleared = [0; 97];
+    let mut set = [0; 97];
+    Tally::in_threes("lists of 255 labels", 5, LISTS, |tally, random, _| {
+        let walked = random_list(255, random);
+        expect_record(tally, &walked);
+        for (at, byte) in walked.record().into_iter().enumerate() {
+            cleared[at] |= !byte;
+            set[at] |= byte;
+        }
+    });
+    // The 762 bits of the triples; the last six bits are spare.
+    let mut triples = [0xff; 96];
+    assert_eq!(cleared[1..], triples);
+    triples[95] = 0xc0;
+    assert_eq!(set[1..], triples);
 }
 
 #[test]
