@@ -41,10 +41,10 @@ fn set_triple(record: &mut [u8], position: usize, triple: u8)
     bits::set_group(&mut record[1..], position - 2, triple);
 }
 
-// The record of the labels, from the front of a record slice of zeros, in one pass with the other runs in two stacks: of each run one
-// label is kept. False where the list is not Baxter: a label was seen before, or it lies past the nearest run on its side. The two
-// stacks start with a label that no label lies past. Each turn pushes the last label on both; the counts of runs say how much of a
-// stack is in use.
+// Writes the record of the labels to the front of 97 bytes that are zero, each triple in its place, in one pass with the other runs in
+// two stacks: of each run one label is kept. False where the list is not Baxter: a label was seen before, or it lies past the nearest
+// run on its side. The two stacks start with a label that no label lies past. Each turn pushes the last label on both; the counts of
+// runs say how much of a stack is in use. Bits are whole words here: with bytes a turn may wait for the one before.
 pub fn encode(labels: &[u8], record: &mut [u8]) -> bool
     requires { ⌜ (1 ≤ length (now labels)) × (length (now labels) ≤ 255) ⌝ ∗ ⌜ (LabelOutside (now labels) → ⊥) ⌝
         ∗ ⌜ now «record» ≡ replicate 97 0 ⌝ }

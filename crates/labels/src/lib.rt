@@ -58,7 +58,8 @@ fn twice(labels: &[u8]) -> bool
     false
 }
 
-// The record of a label list, from the front of the record slice, and its length; or the refusal, and the slice as it was.
+// The record of a label list, from the front of the record slice, and its length; or the refusal, and the slice as it was. The record
+// is made in bytes of its own and copied last, since only the whole pass tells that a list is good.
 pub fn labels_in(labels: &[u8], record: &mut [u8]) -> LabelsAnswer
     ensures { λ r. ⌜ LabelsIn (now (labels .entry)) (now («record» .entry)) r (now («record» .exit)) ⌝ }
 {

@@ -2,10 +2,12 @@
 -- away and what the next turn leaves.
 use mathlib.Core.List.{List}
 use mathlib.Core.Path.{_≡_, sym, ap, _∙_}
-use Prim.Native.Nat.{ℕ, _+_, _-_, _≤_}
+use Prim.Native.Nat.{ℕ, _+_, _-_, _*_, _≤_}
 use native.Mathlib.Omega.{arith}
 use lib.ListN.{length, getD, length-replicate}
 use borrow.Author.Needs.{needs}
+use Rattle.record.specs.TripleNumber.{tripleOf}
+use Rattle.record.specs.TripleSet.{TripleSet}
 use Rattle.encoding.proofs.Passed.{Passed, passed-first, passed-all}
 use Rattle.encoding.proofs.Turn.{Turn, Taken, turn-of}
 use Rattle.encoding.proofs.encode.Statement.{statement}
@@ -26,66 +28,37 @@ abbrev μ-loop : tie.MeasureT-loop
 μ-loop labels record₀ n seen₀ below₀ above₀ runs-below₀ runs-above₀ last₀ first k₀ «record» seen below above runs-below runs-above last k =
     length labels - k
 
--- the places of the code: between two turns, where the label's index is known, where the label is taken, and where its triple is known
+-- what the functions that are called claim
+abbrev called : lts.Claims
+called = (
+  index-reads.Asked,
+  index-reads.Learnt,
+  past-runs-reads.Asked,
+  past-runs-reads.Learnt,
+  one-if-reads.Asked,
+  one-if-reads.Learnt,
+  runs-after-reads.Asked,
+  runs-after-reads.Learnt,
+  set-triple-reads.Asked,
+  set-triple-reads.Learnt,
+)
+
+-- the places of the code: between two turns, where the label's index is known, where the label is taken, where its triple is known,
+-- and where that is set
 abbrev Between : Type 0
-Between =
-    lts.At-loop (
-      index-reads.Asked,
-      index-reads.Learnt,
-      past-runs-reads.Asked,
-      past-runs-reads.Learnt,
-      one-if-reads.Asked,
-      one-if-reads.Learnt,
-      runs-after-reads.Asked,
-      runs-after-reads.Learnt,
-      set-triple-reads.Asked,
-      set-triple-reads.Learnt,
-    ) reads.Pre reads.Post Inv-loop μ-loop
+Between = lts.At-loop called reads.Pre reads.Post Inv-loop μ-loop
 
 abbrev Indexed : Type 0
-Indexed =
-    lts.After-index2 (
-      index-reads.Asked,
-      index-reads.Learnt,
-      past-runs-reads.Asked,
-      past-runs-reads.Learnt,
-      one-if-reads.Asked,
-      one-if-reads.Learnt,
-      runs-after-reads.Asked,
-      runs-after-reads.Learnt,
-      set-triple-reads.Asked,
-      set-triple-reads.Learnt,
-    ) reads.Pre reads.Post Inv-loop μ-loop
+Indexed = lts.After-index2 called reads.Pre reads.Post Inv-loop μ-loop
 
 abbrev Kept : Type 0
-Kept =
-    lts.Else1 (
-      index-reads.Asked,
-      index-reads.Learnt,
-      past-runs-reads.Asked,
-      past-runs-reads.Learnt,
-      one-if-reads.Asked,
-      one-if-reads.Learnt,
-      runs-after-reads.Asked,
-      runs-after-reads.Learnt,
-      set-triple-reads.Asked,
-      set-triple-reads.Learnt,
-    ) reads.Pre reads.Post Inv-loop μ-loop
+Kept = lts.Else1 called reads.Pre reads.Post Inv-loop μ-loop
 
 abbrev Told : Type 0
-Told =
-    lts.After-one-if (
-      index-reads.Asked,
-      index-reads.Learnt,
-      past-runs-reads.Asked,
-      past-runs-reads.Learnt,
-      one-if-reads.Asked,
-      one-if-reads.Learnt,
-      runs-after-reads.Asked,
-      runs-after-reads.Learnt,
-      set-triple-reads.Asked,
-      set-triple-reads.Learnt,
-    ) reads.Pre reads.Post Inv-loop μ-loop
+Told = lts.After-one-if called reads.Pre reads.Post Inv-loop μ-loop
+
+abbrev TripleDone : Type 0
+TripleDone = lts.After-set-triple called reads.Pre reads.Post Inv-loop μ-loop
 
 -- the labels that were lent
 abbrev labelsAt : Between → List ℕ
@@ -117,6 +90,17 @@ small : (o : Told)
 small o =
     let i = o .before .before .before .before .before .before .before in
     rw (i .index2 .ensures .0) (turn i .first-small, turn i .second-small, o .one-if .ensures .1)
+
+-- the triple of the next position is set
+triple-set : (c : TripleDone)
+    → let o = c .before .before .before .before in
+    let i = o .before .before .before .before .before .before .before in
+    let l = i .before .before .before in
+    let seen = l .loop .seen in
+    let at = i .index2 .result in
+    TripleSet (l .loop .«record») (c .set-triple .last .0) (l .loop .k + 2)
+    (tripleOf (4 * getD seen (at + 1) 0 + 2 * getD seen (at - 1) 0 + o .one-if .result))
+triple-set c = c .set-triple .ensures
 
 -- the record slice keeps its length
 as-long : (l : Between) → length (l .loop .«record») ≡ length (l .before .before .before .before .before .args .«record» .now)
@@ -274,12 +258,12 @@ loop-again c =
     let i = e .before .before .before .before in
     let below = c .before .before .before .before .before .runs-after in
     let above = c .before .before .before .before .runs-after2 in
-    let triple = c .before .before .set-triple in
+    let set = c .before .before in
     rw (i .index2 .ensures .0)
-    (taken e .after (below .result) (above .result) (triple .last .0)
+    (taken e .after (below .result) (above .result) (set .set-triple .last .0)
     (rw (i .index2 .ensures .0, o .one-if .ensures .0) at (below .ensures))
     (rw (i .index2 .ensures .0, o .one-if .ensures .0) at (above .ensures))
-    (rw (i .index2 .ensures .0, o .one-if .ensures .0) at (triple .ensures)))
+    (rw (i .index2 .ensures .0, o .one-if .ensures .0) at (triple-set set)))
 
 same-length-2 : tie.Need-same-length-2 Inv-loop μ-loop
 same-length-2 c = as-long (c .before)

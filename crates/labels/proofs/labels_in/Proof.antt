@@ -29,58 +29,31 @@ use Rattle.encoding.proofs.encode.Reads as encode-reads
 use Rattle.labels.proofs.outside.Reads as outside-reads
 use Rattle.labels.proofs.twice.Reads as twice-reads
 
+-- what the functions that are called claim
+abbrev called : lts.Claims
+called = (
+  outside-reads.Asked,
+  outside-reads.Learnt,
+  encode-reads.Asked,
+  encode-reads.Learnt,
+  twice-reads.Asked,
+  twice-reads.Learnt,
+  copy-reads.Asked,
+  copy-reads.Learnt,
+)
+
 -- the places of the code, by what is known there: the count is good, no label is outside, the pass accepted the list or turned it away
 abbrev Counted : Type 0
-Counted =
-    lts.Else2 (
-      outside-reads.Asked,
-      outside-reads.Learnt,
-      encode-reads.Asked,
-      encode-reads.Learnt,
-      twice-reads.Asked,
-      twice-reads.Learnt,
-      copy-reads.Asked,
-      copy-reads.Learnt,
-    ) reads.Pre reads.Post
+Counted = lts.Else2 called reads.Pre reads.Post
 
 abbrev Inside : Type 0
-Inside =
-    lts.Else3 (
-      outside-reads.Asked,
-      outside-reads.Learnt,
-      encode-reads.Asked,
-      encode-reads.Learnt,
-      twice-reads.Asked,
-      twice-reads.Learnt,
-      copy-reads.Asked,
-      copy-reads.Learnt,
-    ) reads.Pre reads.Post
+Inside = lts.Else3 called reads.Pre reads.Post
 
 abbrev Accepted : Type 0
-Accepted =
-    lts.Else4 (
-      outside-reads.Asked,
-      outside-reads.Learnt,
-      encode-reads.Asked,
-      encode-reads.Learnt,
-      twice-reads.Asked,
-      twice-reads.Learnt,
-      copy-reads.Asked,
-      copy-reads.Learnt,
-    ) reads.Pre reads.Post
+Accepted = lts.Else4 called reads.Pre reads.Post
 
 abbrev TurnedAway : Type 0
-TurnedAway =
-    lts.Then4 (
-      outside-reads.Asked,
-      outside-reads.Learnt,
-      encode-reads.Asked,
-      encode-reads.Learnt,
-      twice-reads.Asked,
-      twice-reads.Learnt,
-      copy-reads.Asked,
-      copy-reads.Learnt,
-    ) reads.Pre reads.Post
+TurnedAway = lts.Then4 called reads.Pre reads.Post
 
 -- the labels that were lent
 abbrev labelsAt : Inside → List ℕ
