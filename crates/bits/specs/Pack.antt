@@ -1,5 +1,5 @@
--- Laws on lists of bytes and their bits: bits that are packed into bytes are found there again, equal bits make equal lists, and a
--- group's number says which bits it has.
+-- Laws on lists of bytes and their bits: where the bits of a list are, bits that are packed into bytes are found there again, and equal
+-- bits make equal lists.
 use mathlib.Core.Bool.{Bool, true, false}
 use mathlib.Core.List.{List, [], _∷_}
 use mathlib.Core.Logic.{inl, inr}
@@ -15,7 +15,7 @@ use lib.Seq.{ext-getD}
 use Rattle.finite.specs.Decide.{le-or-lt}
 use Rattle.finite.specs.Every.{every-at}
 use Rattle.finite.specs.Table.{length-table, getD-table, take-table}
-use Rattle.bits.specs.Bit.{bit, bitIn, bitAt, Bytes, groupAt, value, byteOf, pack}
+use Rattle.bits.specs.Bit.{bit, bitIn, bitAt, Bytes, value, byteOf, pack}
 
 -- ---- a bit as a number
 bit-small : (x : Bool) → bit x < 2
@@ -25,25 +25,6 @@ bit-small false = omega arith
 bit-back : (x : Bool) → eqb (bit x) 1 ≡ x
 bit-back true = refl
 bit-back false = refl
-
-bit-injective : (x y : Bool) → bit x ≡ bit y → x ≡ y
-bit-injective x y e = sym (bit-back x) ∙ ap (λ (n : ℕ). eqb n 1) e ∙ bit-back y
-
--- a group's number says what its three bits are
-pub group-bits : (bytes : List ℕ) (k : ℕ) (x y z : Bool) → groupAt bytes k ≡ 4 * bit x + 2 * bit y + bit z
-    → (bitAt bytes (3 * k) ≡ x) × (bitAt bytes (3 * k + 1) ≡ y) × (bitAt bytes (3 * k + 2) ≡ z)
-unfolding groupAt
-group-bits bytes k x y z e =
-    let a = bitAt bytes (3 * k) in
-    let b = bitAt bytes (3 * k + 1) in
-    let c = bitAt bytes (3 * k + 2) in
-    let a-small = bit-small a in
-    let b-small = bit-small b in
-    let c-small = bit-small c in
-    let x-small = bit-small x in
-    let y-small = bit-small y in
-    let z-small = bit-small z in
-    (bit-injective a x (omega arith), bit-injective b y (omega arith), bit-injective c z (omega arith))
 
 -- ---- the number that bits write
 value-small : (b : ℕ → Bool) (m : ℕ) → value b m < 2 ^ m
