@@ -25,6 +25,11 @@ module _ (P : ℕ → Type 0) (d : (i : ℕ) → Dec (P i)) where
           pick j b (inl q) = subst (λ (x : ℕ). ¬ P x) (sym q) np
           pick j b (inr l) = none j b l
 
+  -- the first one of some
+  unfoldable pub first-of : (a e : ℕ) → Some P a e → First P a e
+  unfolding first
+  first-of a e (x, l, u, p) = elim (first a e) [ inl r ↦ r | inr none ↦ absurd (none x l u p) ]
+
   -- each has P where there is none that has it not
   unfoldable pub dec-each : (a e : ℕ) → Dec (Each P a e)
   unfolding dec-some dec-¬
@@ -33,3 +38,13 @@ module _ (P : ℕ → Type 0) (d : (i : ℕ) → Dec (P i)) where
       go : Dec (Some (λ i. ¬ P i) a e) → Dec (Each P a e)
       go (yes s) = no (λ f. s .3 (f (s .0) (s .1) (s .2)))
       go (no h) = yes (λ i b c. stable (d i) (λ np. h (i, b, c, np)))
+
+-- what a search from a up to e answers: the first number that has P, or where none before e has it a number that is not before e
+pub record FirstOrEnd (P : ℕ → Type 0) (a e at : ℕ) : Type 0 where
+  pub from : a ≤ at
+  pub has : at < e → P at
+  pub before : (j : ℕ) → a ≤ j → j < at → ¬ P j
+
+-- no number that has P comes before it
+pub not-after : {P : ℕ → Type 0} {a e at : ℕ} → FirstOrEnd P a e at → (j : ℕ) → a ≤ j → P j → at ≤ j
+not-after {P} {a} {e} {at} x j from has = elim (le-or-lt at j) [ inl h ↦ h | inr h ↦ absurd (x .before j from h has) ]

@@ -26,14 +26,13 @@ unfoldable pub dec-twice : (labels : List ℕ) → Dec (LabelTwice labels)
 unfolding dec-some ℕ-discrete
 dec-twice labels = dec-some _ (λ j. dec-some _ (λ i. ℕ-discrete (labelAt labels i) (labelAt labels j)) 1 j) 1 (suc (length labels))
 
-unfoldable pub dec-barred : (f : ℕ → ℕ) (n : ℕ) → Dec (Barred f n)
-unfolding dec-some dec-⊎ dec-×₃ ℕ-discrete decLt
-dec-barred f n =
-    dec-some _ (λ l. dec-some _ (λ k. dec-some _ (λ j. dec-some _ (λ i.
-    dec-⊎ (first (f i) (f j) (f k) (f l)) (second (f i) (f j) (f k) (f l))) 1 j) 1 k) 1 l) 1 (suc n)
-  where
-    first : (a b c d : ℕ) → Dec (BarredFirst a b c d)
-    first a b c d = dec-×₃ (decLt c (a + 1)) (ℕ-discrete (a + 1) d) (decLt d b)
+-- four labels meet the first condition or the second
+unfoldable pub dec-meets : (a b c d : ℕ) → Dec (BarredFirst a b c d ⊎ BarredSecond a b c d)
+unfolding dec-⊎ dec-×₃ ℕ-discrete decLt
+dec-meets a b c d =
+    dec-⊎ (dec-×₃ (decLt c (a + 1)) (ℕ-discrete (a + 1) d) (decLt d b)) (dec-×₃ (decLt b (d + 1)) (ℕ-discrete (d + 1) a) (decLt a c))
 
-    second : (a b c d : ℕ) → Dec (BarredSecond a b c d)
-    second a b c d = dec-×₃ (decLt b (d + 1)) (ℕ-discrete (d + 1) a) (decLt a c)
+unfoldable pub dec-barred : (f : ℕ → ℕ) (n : ℕ) → Dec (Barred f n)
+unfolding dec-some dec-meets
+dec-barred f n =
+    dec-some _ (λ l. dec-some _ (λ k. dec-some _ (λ j. dec-some _ (λ i. dec-meets (f i) (f j) (f k) (f l)) 1 j) 1 k) 1 l) 1 (suc n)

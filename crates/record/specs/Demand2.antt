@@ -19,7 +19,7 @@ use Rattle.record.specs.Record.{bodyLength, tripleBit, bodyBit, tripleIn
 use Rattle.record.specs.Answer.{labelsAnswer}
 use Rattle.record.specs.Demand1 as says
 use Rattle.record.specs.Demand1.{LabelsSays, demand1-labels-cause, demand1-labels-answer}
-use Rattle.record.specs.Judged.{Sound}
+use Rattle.record.specs.Judged.{Permutation, Sound}
 use Rattle.record.specs.Decode.{decode}
 use Rattle.record.specs.NextTo.{not-barred-next}
 use Rattle.record.specs.Forward.{accepted}
@@ -155,18 +155,27 @@ once-inside labels each (i, a, b, h) = elim h [ inl l ↦ omega (arith, each .ra
 pub once-single : (labels : List ℕ) → EachOnce (labelAt labels) (length labels) → ¬ LabelTwice labels
 once-single labels each (j, a, b, (i, c, d, e)) = omega (arith, each .once i j c (omega arith) a (omega arith) e)
 
--- so a list is sound exactly if it is Baxter and has 1 to 255 labels
+-- so a list with none of the causes 1, 6 and 7 has each of 1 to 255 labels once
+pub permutation-once : (labels : List ℕ) → Permutation labels
+    → EachOnce (labelAt labels) (length labels) × (1 ≤ length labels) × (length labels ≤ 255)
+permutation-once labels p =
+    let some : length labels ≢ 0 = λ z. p .count (inl z) in
+    let few : ¬ (255 < length labels) = λ z. p .count (inr z) in
+    (each-once labels (p .inside) (p .single), omega arith, omega arith)
+
+-- and a list is sound exactly if it is Baxter and has 1 to 255 labels
 pub sound→baxter : (labels : List ℕ) → Sound labels → Baxter labels × (1 ≤ length labels) × (length labels ≤ 255)
 sound→baxter labels s =
-    let some : length labels ≢ 0 = λ z. s .count (inl z) in
-    let few : ¬ (255 < length labels) = λ z. s .count (inr z) in
-    (record { each-once = each-once labels (s .inside) (s .single); not-barred = s .free }, omega arith, omega arith)
+    let (each, some, few) = permutation-once labels (s .permutation) in
+    (record { each-once = each; not-barred = s .free }, some, few)
 
 pub baxter→sound : (labels : List ℕ) → Baxter labels → 1 ≤ length labels → length labels ≤ 255 → Sound labels
 baxter→sound labels b some few = record {
-  count = λ h. elim h [ inl z ↦ omega arith | inr z ↦ omega arith ];
-  inside = once-inside labels (b .each-once);
-  single = once-single labels (b .each-once);
+  permutation = record {
+    count = λ h. elim h [ inl z ↦ omega arith | inr z ↦ omega arith ];
+    inside = once-inside labels (b .each-once);
+    single = once-single labels (b .each-once);
+  };
   free = b .not-barred;
 }
 

@@ -1,8 +1,9 @@
 -- Label lists. "The label list gives the labels by position." Positions count from 1, and so do labels.
-use mathlib.Core.Path.{_≡_}
+use mathlib.Core.Path.{_≡_, ap}
 use mathlib.Core.Logic.{_⊎_}
 use mathlib.Core.List.{List}
-use Prim.Native.Nat.{ℕ, zero, suc, _≤_, _<_}
+use Prim.Native.Nat.{ℕ, zero, suc, _-_, _≤_, _<_}
+use native.Mathlib.Omega.{arith}
 use lib.ListN.{length, getD}
 use Rattle.finite.specs.Search.{Some}
 
@@ -10,6 +11,11 @@ use Rattle.finite.specs.Search.{Some}
 abbrev pub labelAt : List ℕ → ℕ → ℕ
 labelAt labels zero = 0
 labelAt labels (suc i) = getD labels i 0
+
+-- it is the entry of index i - 1, since entries count from 0
+pub label-at : (labels : List ℕ) (i : ℕ) → 1 ≤ i → getD labels (i - 1) 0 ≡ labelAt labels i
+label-at labels zero h = absurd (omega arith)
+label-at labels (suc i) h = ap (λ (k : ℕ). getD labels k 0) (omega arith)
 
 -- some position of 1 to n has the property
 abbrev pub SomePosition : (ℕ → Type 0) → ℕ → Type 0

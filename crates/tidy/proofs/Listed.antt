@@ -11,7 +11,7 @@ use lib.Seq.{ext-getD, getD-take, length-take-le}
 use Rattle.record.specs.Labels.{LabelOutside}
 use Rattle.record.specs.Causes.{BadCount, dec-outside}
 use Rattle.record.specs.Judged as judged
-use Rattle.record.specs.Judged.{RefusesLabels, count, outside, twice, barred, Judgement, judgement, refused-judged}
+use Rattle.record.specs.Judged.{RefusesLabels, count, outside, twice, not-permutation, barred, Judgement, judgement, refused-judged}
 use Rattle.record.specs.declared.Refusal.{Refusal}
 use Rattle.record.specs.declared.Refusal.the-variants.{Count}
 use Rattle.labeltext.specs.Form.{KeepsForm}
@@ -53,7 +53,7 @@ module _ (text : List ℕ) (short : length text ≤ 4096) (done : Done (run star
   -- more than 255 numbers
   pub many-tidied : (before : List ℕ) → 255 < length (numbersOf (run start (lineOf text))) → Tidied text before (Refused Count) before
   many-tidied before many = record {
-    answered = demand1-tidy-answer text (length before) (says.refused kept-form (count (inr (omega (arith, ap length read-labels)))));
+    answered = demand1-tidy-answer text (length before) (says.refused kept-form (not-permutation (count (inr (omega (arith, ap length read-labels))))));
     left = refl;
   }
 
@@ -77,10 +77,10 @@ byte-large v h = if-pos (decLt 255 v) h _ _
 
 -- two lists of one length that have a label outside 1 to n are refused alike
 refused-outside : {bytes labels : List ℕ} {refusal : Refusal} → length bytes ≡ length labels → LabelOutside bytes → LabelOutside labels → RefusesLabels bytes refusal → RefusesLabels labels refusal
-refused-outside e out there (count c) = count (subst BadCount e c)
-refused-outside e out there (outside c o) = outside (λ z. c (subst BadCount (sym e) z)) there
-refused-outside e out there (twice c o t) = absurd (o out)
-refused-outside e out there (barred c o t x) = absurd (o out)
+refused-outside e out there (not-permutation (count c)) = not-permutation (count (subst BadCount e c))
+refused-outside e out there (not-permutation (outside c o)) = not-permutation (outside (λ z. c (subst BadCount (sym e) z)) there)
+refused-outside e out there (not-permutation (twice c o t)) = absurd (o out)
+refused-outside e out there (barred p b) = absurd (p .inside out)
 
 module _ {text : List ℕ} {size : ℕ} {store : List ℕ} (l : Listed text size store) where
   pub stored : size ≤ length store
@@ -129,7 +129,7 @@ module _ {text : List ℕ} {size : ℕ} {store : List ℕ} (l : Listed text size
       kept = sym (kept-answer text (length before) (l .form))
 
       go : Judgement (take size store) → LabelOutside (labelsIn text) → Tidied text before answer after
-      go (judged.sound s) there = absurd (s .inside (outside-stored there))
+      go (judged.sound s) there = absurd (s .permutation .inside (outside-stored there))
       go (judged.refused {refusal} cause) there =
           let is : answer ≡ Refused refusal = t .answered ∙ sym (refused-judged Refused (take size store) _ cause) in
           record {

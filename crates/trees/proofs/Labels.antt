@@ -1,16 +1,11 @@
 -- The label that is read at a position of a block is one of the block's.
 use mathlib.Core.List.{List}
-use mathlib.Core.Path.{_≡_, ap, _∙_}
-use Prim.Native.Nat.{ℕ, zero, suc, _+_, _-_, _≤_, _<_}
+use mathlib.Core.Path.{_≡_, _∙_}
+use Prim.Native.Nat.{ℕ, _+_, _-_, _≤_, _<_}
 use native.Mathlib.Omega.{arith}
 use lib.ListN.{getD}
-use Rattle.record.specs.Labels.{labelAt}
+use Rattle.record.specs.Labels.{labelAt, label-at}
 use Rattle.trees.specs.Block.{BlockOf}
-
--- the label at a position, by its index
-pub label-at : (labels : List ℕ) (i : ℕ) → 1 ≤ i → getD labels (i - 1) 0 ≡ labelAt labels i
-label-at labels zero h = absurd (omega arith)
-label-at labels (suc i) h = ap (λ (k : ℕ). getD labels k 0) (omega arith)
 
 module _ {labels : List ℕ} {from to lowest : ℕ} (b : BlockOf labels from to lowest) {position label : ℕ} (a : from ≤ position)
     (h : position < to) (is : label ≡ getD labels (position - 1) 0) where

@@ -9,21 +9,19 @@ use lib.ListN.{length, getD, take, drop, set, length-set, length-drop, length-ap
 use lib.Seq.{length-take-le, append-snoc, set-at, take-set-lt, take-add}
 use Rattle.finite.specs.Decide.{Tells, le-or-lt, eq-or-ne}
 use Rattle.finite.specs.Put.{Put, put-none, put-one, put-more, put-as}
-use Rattle.record.specs.Labels.{labelAt}
+use Rattle.record.specs.Labels.{labelAt, label-at}
 use Rattle.slicing.specs.Cuts.{opposite, Before, Parts, dec-before}
 use Rattle.slicing.specs.Tree.{leaf, node, Trees, none, _then_, count, Blocks, bytesOf, bytesOfAll, kindOfCut}
 use Rattle.slicing.specs.Order.{before-itself, before-back, before-turned}
 use Rattle.slicing.specs.Blocks.{Whole, blocks-count}
 use Rattle.slicing.specs.Size.{bytes-of-blocks}
-use Rattle.slicing.specs.Lines.{append, count-append, bytes-append, blocks-joined, blocks-from, blocks-upto}
-use Rattle.slicing.specs.Lines.{leaf-block, node-block, line-between, several-blocks, one-block}
+use Rattle.slicing.specs.Lines.{append, count-append, bytes-append, blocks-joined, blocks-from, blocks-upto, leaf-block, node-block, line-between, several-blocks, one-block}
 use Rattle.slicing.specs.Interval.{placeOf, first-places→parts, interval-of-first, interval-of-rest, lowestOfFirst, lowestOfRest}
 use Rattle.slicing.specs.declared.Cut.{Cut}
 use Rattle.slicing.specs.declared.Cut.the-variants.{Vertical, Horizontal}
 use Rattle.trees.specs.Block.{BlockOf, FirstBefore, oneBlock, FindsLine, TreesStand, NoTrees, Part, EndsPart}
 use Rattle.trees.specs.declared.Line.{Line}
 use Rattle.trees.specs.declared.Line.the-variants.{Before as LineBefore, Nowhere}
-use Rattle.trees.proofs.Labels.{label-at}
 
 -- ---- the rooms before a line, and those after it
 first-bytes : (cut : Cut) (s m e lowest : ℕ) → s < m → m ≤ e → lowest + e ≤ s + 256 → lowestOfFirst cut m e lowest + m ≤ s + 256

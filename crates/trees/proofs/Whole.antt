@@ -5,7 +5,7 @@ use Prim.Native.Nat.{ℕ, suc, _+_, _-_}
 use native.Mathlib.Omega.{arith}
 use lib.ListN.{length, getD}
 use Rattle.finite.specs.Decide.{stable}
-use Rattle.record.specs.Labels.{labelAt}
+use Rattle.record.specs.Labels.{labelAt, label-at}
 use Rattle.slicing.specs.Slicing.{Shaped, dec-shaped}
 use Rattle.slicing.specs.Cuts.{Before}
 use Rattle.slicing.specs.Tree.{TreeOf, none, _then_, bytesOf, bytesOfAll}
@@ -15,7 +15,6 @@ use Rattle.slicing.specs.declared.Cut.{Cut}
 use Rattle.trees.specs.Block.{BlockOf, FirstBefore, TreesStand, NoTrees, Puts}
 use Rattle.trees.specs.Written.{Plan, TreeWritten, Writes}
 use Rattle.trees.specs.declared.TreesPut.{TreesPut}
-use Rattle.trees.proofs.Labels.{label-at}
 
 module _ (labels : List ℕ) (plan : Plan labels) where
   abbrev f : ℕ → ℕ

@@ -10,11 +10,11 @@ use lib.Seq.{length-take-le}
 use borrow.Author.Needs.{needs}
 use Rattle.finite.specs.Copied.{copied}
 use Rattle.finite.specs.Decide.{stable}
-use Rattle.record.specs.Labels.{labelAt, LabelOutside}
+use Rattle.record.specs.Labels.{labelAt, LabelOutside, LabelTwice}
 use Rattle.record.specs.Barred.{Baxter}
 use Rattle.record.specs.Record.{bodyLength, recordOf}
 use Rattle.record.specs.Causes.{BadCount, dec-barred}
-use Rattle.record.specs.Judged.{Sound, count, outside, twice, barred}
+use Rattle.record.specs.Judged.{Permutation, Sound, count, outside, twice, not-permutation, barred}
 use Rattle.record.specs.Demand1.{refused, short, wrote, demand1-labels-answer}
 use Rattle.record.specs.Demand2.{each-once, once-single, record-length}
 use Rattle.record.specs.declared.LabelsAnswer.the-variants.{Wrote}
@@ -73,6 +73,9 @@ counted e (inr h) = omega (arith, e .if2 .left)
 inside : (e : Inside) → ¬ LabelOutside (labelsAt e)
 inside e = rw (e .if3 .left) at (e .before .outside .ensures)
 
+permutation : (e : Inside) → ¬ LabelTwice (labelsAt e) → Permutation (labelsAt e)
+permutation e single = record { count = counted (e .before .before); inside = inside e; single = single }
+
 encoded : (e : Accepted) → Encoded true (accepted e) (written e)
 encoded e = rw (not-false (e .before .before .encode .result) (e .if4 .left)) at (e .before .before .encode .ensures)
 
@@ -80,7 +83,7 @@ sound : (e : Accepted) → Sound (accepted e)
 sound e =
     let f = e .before .before .before .before in
     let b = encoded e .0 in
-    record { count = counted (f .before .before); inside = inside f; single = once-single (accepted e) (b .each-once); free = b .not-barred }
+    record { permutation = permutation f (once-single (accepted e) (b .each-once)); free = b .not-barred }
 
 not-baxter : (e : TurnedAway) → ¬ Baxter (labelsAt (e .before .before .before .before))
 not-baxter e = rw (not-true (e .before .before .encode .result) (e .if4 .taken)) at (e .before .before .encode .ensures)
@@ -96,12 +99,12 @@ front-length e = sym (ap length (front e) ∙ record-length (accepted e))
 returns : tie.Need-returns
 returns c =
     let a = c .before .before .before .args in
-    record { answered = demand1-labels-answer (a .labels .now) (length (a .«record» .now)) (refused (count (inl (c .if1 .taken)))); left = refl }
+    record { answered = demand1-labels-answer (a .labels .now) (length (a .«record» .now)) (refused (not-permutation (count (inl (c .if1 .taken))))); left = refl }
 
 returns-2 : tie.Need-returns-2
 returns-2 c =
     let a = c .before .before .before .before .args in
-    record { answered = demand1-labels-answer (a .labels .now) (length (a .«record» .now)) (refused (count (inr (c .if2 .taken)))); left = refl }
+    record { answered = demand1-labels-answer (a .labels .now) (length (a .«record» .now)) (refused (not-permutation (count (inr (c .if2 .taken))))); left = refl }
 
 outside-requires : tie.Need-outside-requires
 outside-requires c κs = search needs
@@ -109,7 +112,7 @@ outside-requires c κs = search needs
 returns-3 : tie.Need-returns-3
 returns-3 c =
     let found = rw (c .if3 .taken) at (c .before .outside .ensures) in
-    record { answered = demand1-labels-answer _ _ (refused (outside (counted (c .before .before)) found)); left = refl }
+    record { answered = demand1-labels-answer _ _ (refused (not-permutation (outside (counted (c .before .before)) found))); left = refl }
 
 slice-aggregate-encode : tie.Need-slice-aggregate-encode
 slice-aggregate-encode c = search needs
@@ -124,7 +127,7 @@ returns-4 : tie.Need-returns-4
 returns-4 c =
     let e = c .before .before .before .before .before .before in
     let found = rw (c .if5 .taken) at (c .before .twice .ensures) in
-    record { answered = demand1-labels-answer _ _ (refused (twice (counted (e .before .before)) (inside e) found)); left = refl }
+    record { answered = demand1-labels-answer _ _ (refused (not-permutation (twice (counted (e .before .before)) (inside e) found))); left = refl }
 
 returns-5 : tie.Need-returns-5
 returns-5 c =
@@ -133,7 +136,7 @@ returns-5 c =
     let single = rw (c .if5 .left) at (c .before .twice .ensures) in
     let turned = not-baxter (c .before .before) in
     let bad = stable (dec-barred (labelAt a) (length a)) (λ free. turned record { each-once = each-once a (inside e) single; not-barred = free }) in
-    record { answered = demand1-labels-answer _ _ (refused (barred (counted (e .before .before)) (inside e) single bad)); left = refl }
+    record { answered = demand1-labels-answer _ _ (refused (barred (permutation e single) bad)); left = refl }
 
 mul-size : tie.Need-mul-size
 mul-size c = search needs
