@@ -1,5 +1,5 @@
--- Numbers that fit 32 bits with a sign.
-use mathlib.Core.Path.{_≡_, ap, _∙_}
+-- Numbers that fit 32 bits with a sign, and 64.
+use mathlib.Core.Path.{_≡_, sym, ap, subst, _∙_}
 use Prim.Native.Nat.{ℕ, zero, suc, _^_, _≤_, _<_}
 use native.Mathlib.Omega.{arith}
 use borrow.Author.Tests.{lt-ltb}
@@ -8,7 +8,7 @@ use Rattle.record.specs.Refusal.{numberOf}
 use Rattle.record.specs.declared.Refusal.{Refusal}
 use Rattle.record.specs.declared.Refusal.the-variants.{Count, RoomSize, Overlap, Uncovered, FourMeet, LabelOutside, LabelTwice, BarredPattern, NoKind, ShortBody, BytesAfter, MissingRun, SeveralRuns, SpareBit, ShortOutput, PositionOutside, SamePosition, TextForm, NotSlicing}
 use Rattle.nenturxo.specs.Code.{refusalCode}
-use mir.Syntax.{w32}
+use mir.Syntax.{w32, w64}
 use mir.Val.{SFits, toZ, ofZ}
 use mir.ValLaws.{toZ-ofZ}
 
@@ -54,3 +54,14 @@ refused-fits refusal = negated-fits (numberOf refusal) (omega (arith, number-sma
 -- a refusal's number, stored in 32 bits and read again
 pub refused-is : (refusal : Refusal) {number : ℤ} → number ≡ refusalCode refusal → toZ w32 (ofZ w32 number) ≡ refusalCode refusal
 refused-is refusal e = ap (λ (z : ℤ). toZ w32 (ofZ w32 z)) e ∙ toZ-ofZ w32 (refusalCode refusal) (refused-fits refusal)
+
+-- and where it is widened to 64 bits
+wider-fits : {z : ℤ} → SFits w32 z → SFits w64 z
+wider-fits f = record { sfits = omega (arith, f .sfits) }
+
+pub widened-fits : (refusal : Refusal) {number : ℤ} → number ≡ refusalCode refusal → SFits w64 (toZ w32 (ofZ w32 number))
+widened-fits refusal e = subst (SFits w64) (sym (refused-is refusal e)) (wider-fits (refused-fits refusal))
+
+pub widened-is : (refusal : Refusal) {number : ℤ} → number ≡ refusalCode refusal
+    → toZ w64 (ofZ w64 (toZ w32 (ofZ w32 number))) ≡ refusalCode refusal
+widened-is refusal {number} e = toZ-ofZ w64 (toZ w32 (ofZ w32 number)) (widened-fits refusal e) ∙ refused-is refusal e

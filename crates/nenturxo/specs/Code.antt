@@ -1,12 +1,16 @@
 -- The number that a call of the C interface returns: the result, which is at least 0, or the refusal's number negated.
 use mathlib.Core.Bool.{Bool, true, false}
 use mathlib.Core.Path.{_≡_}
-use Prim.Native.Nat.{ℕ, _+_}
+use Prim.Native.Nat.{ℕ, _+_, _*_, _^_}
 use lib.IntN.{ℤ, pos, negℤ}
 use Rattle.record.specs.Refusal.{numberOf}
 use Rattle.record.specs.declared.Refusal.{Refusal}
 use Rattle.record.specs.declared.LabelsAnswer.{LabelsAnswer}
 use Rattle.record.specs.declared.LabelsAnswer.the-variants.{Wrote, Refused}
+use Rattle.patterns.specs.Pattern.{conditionNumber}
+use Rattle.patterns.specs.declared.Condition.{Condition}
+use Rattle.patterns.specs.declared.PatternAnswer.{PatternAnswer}
+use Rattle.patterns.specs.declared.PatternAnswer.the-variants as patterns
 use Rattle.labeltext.specs.declared.TidyAnswer.{TidyAnswer}
 use Rattle.labeltext.specs.declared.TidyAnswer.the-variants as tidied
 use Rattle.drawing.specs.declared.Relation.{Relation}
@@ -39,6 +43,15 @@ roomsCode (roomsIn.Refused refusal) = refusalCode refusal
 abbrev pub labelsCode : LabelsAnswer → ℤ
 labelsCode (Wrote size) = pos size
 labelsCode (Refused refusal) = refusalCode refusal
+
+-- Pattern: a number for the condition and the four positions, whose bytes they are; 0 for no pattern
+abbrev pub patternNumber : Condition → (i j k l : ℕ) → ℕ
+patternNumber which i j k l = conditionNumber which * 2 ^ 32 + i * 2 ^ 24 + j * 2 ^ 16 + k * 2 ^ 8 + l
+
+abbrev pub patternCode : PatternAnswer → ℤ
+patternCode (patterns.Pattern which i j k l) = pos (patternNumber which (i .0) (j .0) (k .0) (l .0))
+patternCode patterns.NoPattern = pos 0
+patternCode (patterns.Refused refusal) = refusalCode refusal
 
 -- Tidy: the length of the tidy text
 abbrev pub tidyCode : TidyAnswer → ℤ

@@ -1,15 +1,16 @@
 // The C interface: the public calls as exported functions, and nothing else. A slice is a pointer and its length.
 ghost use mathlib.Core.Bool.{false};
 ghost use mathlib.Core.Path.{_≡_};
-ghost use Prim.Native.Nat.{_≤_};
+ghost use Prim.Native.Nat.{_^_, _≤_, _<_};
 ghost use Rattle.record.specs.Answer.{LabelsIn};
+ghost use Rattle.patterns.specs.Answer.{patternAnswer};
 ghost use Rattle.labeltext.specs.Answer.{Tidied};
 ghost use Rattle.answers.specs.Answer.{slices, RecordIn};
 ghost use Rattle.slicing.specs.Answer.{TreeIn};
 ghost use Rattle.questions.specs.Answer.{questionAnswer};
 ghost use Rattle.entering.specs.Answer.{slices as roomSlices, RoomsIn};
 ghost use Rattle.nenturxo.specs.Code.{Coded, refusalCode, roomsCode, labelsCode, tidyCode, recordCode, treeCode};
-ghost use Rattle.nenturxo.specs.Code.{relationNumber, relatedNumber, questionCode};
+ghost use Rattle.nenturxo.specs.Code.{patternNumber, patternCode, relationNumber, relatedNumber, questionCode};
 ghost use Rattle.nenturxo.specs.Size.{AtMost97};
 use answers::RecordAnswer;
 use drawing::Relation;
@@ -17,8 +18,11 @@ use drawing::Room;
 use drawing::Side;
 use entering::RoomsAnswer;
 use labeltext::TidyAnswer;
+use patterns::Condition;
+use patterns::PatternAnswer;
 use questions::QuestionAnswer;
 use record::LabelsAnswer;
+use record::Position;
 use record::Refusal;
 use slicing::TreeAnswer;
 
@@ -67,6 +71,29 @@ pub extern "C" fn nenturxo_labels_in(labels: &[u8], record: &mut [u8]) -> i32
     match labels::labels_in(labels, record) {
         LabelsAnswer::Wrote(size) => size as i32,
         LabelsAnswer::Refused(refusal) => refused(refusal),
+    }
+}
+
+// The number of a pattern: its condition, and a byte for each position.
+fn pattern_number(which: Condition, i: Position, j: Position, k: Position, l: Position) -> u64
+    ensures { λ r. ⌜ (r ≡ patternNumber which (i .0) (j .0) (k .0) (l .0)) × (r < 2 ^ 34) ⌝ }
+{
+    let condition = which.number() as u64;
+    let with_i = 256 * condition + i.0 as u64;
+    let with_j = 256 * with_i + j.0 as u64;
+    let with_k = 256 * with_j + k.0 as u64;
+    256 * with_k + l.0 as u64
+}
+
+// Pattern: the number of the first barred pattern, 0 where there is none, or the refusal's number negated.
+#[no_mangle]
+pub extern "C" fn nenturxo_pattern(labels: &[u8]) -> i64
+    ensures { λ r. ⌜ r ≡ patternCode (patternAnswer (now (labels .entry))) ⌝ }
+{
+    match searching::pattern(labels) {
+        PatternAnswer::Pattern(which, i, j, k, l) => pattern_number(which, i, j, k, l) as i64,
+        PatternAnswer::NoPattern => 0,
+        PatternAnswer::Refused(refusal) => refused(refusal) as i64,
     }
 }
 
