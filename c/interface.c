@@ -421,6 +421,135 @@ static void test_tree(void) {
     refuses_tree(left_over, 2, NENTURXO_RUNS_LEFT);
 }
 
+/* ---- Pattern */
+
+/* The number of the pattern at these positions. */
+static int64_t named(int condition, int i, int j, int k, int l) {
+    return condition * INT64_C(0x100000000) + i * INT64_C(0x1000000) + j * 0x10000 + k * 0x100 + l;
+}
+
+/* The labels get this number. They are the middle part of a larger buffer, and
+ * that stays as it was. */
+static void gives(const uint8_t *labels, size_t n, int64_t expected) {
+    uint8_t around[600];
+    memset(around, UNTOUCHED, sizeof around);
+    memcpy(around + 100, labels, n);
+    CHECK(nenturxo_pattern(around + 100, n) == expected);
+    CHECK(all_untouched(around, 100));
+    CHECK(memcmp(around + 100, labels, n) == 0);
+    CHECK(all_untouched(around + 100 + n, sizeof around - 100 - n));
+}
+
+/* A list is refused with 8 exactly if it has a pattern. */
+static void names(const uint8_t *labels, size_t n, int64_t expected) {
+    CHECK(expected > 0);
+    gives(labels, n, expected);
+    CHECK(nenturxo_labels_in(labels, n, never_written, 0) == -NENTURXO_BARRED_PATTERN);
+}
+
+static void names_none(const uint8_t *labels, size_t n) {
+    gives(labels, n, NENTURXO_NO_PATTERN);
+    CHECK(nenturxo_labels_in(labels, n, never_written, 0) == -NENTURXO_SLICE_SHORT);
+}
+
+static void refuses_labels(const uint8_t *labels, size_t n, int refusal) {
+    gives(labels, n, -refusal);
+    CHECK(nenturxo_labels_in(labels, n, never_written, 0) == -refusal);
+}
+
+/* How a caller takes the number apart. */
+static void test_parts_of_a_pattern(void) {
+    const uint8_t barred[] = {2, 4, 1, 3}, other[] = {5, 3, 1, 4, 2};
+    int64_t pattern = nenturxo_pattern(barred, sizeof barred);
+    CHECK(pattern == INT64_C(4311876356));
+    CHECK(pattern >> 32 == NENTURXO_FIRST_CONDITION);
+    CHECK((pattern >> 24 & 255) == 1);
+    CHECK((pattern >> 16 & 255) == 2);
+    CHECK((pattern >> 8 & 255) == 3);
+    CHECK((pattern & 255) == 4);
+
+    pattern = nenturxo_pattern(other, sizeof other);
+    CHECK(pattern >> 32 == NENTURXO_SECOND_CONDITION);
+    CHECK((pattern >> 24 & 255) == 2);
+    CHECK((pattern >> 16 & 255) == 3);
+    CHECK((pattern >> 8 & 255) == 4);
+    CHECK((pattern & 255) == 5);
+}
+
+/* 255 labels that rise, but for a pattern at the very end and another one in the
+ * middle; and 128 that rise and 127 that come back down between them. */
+static void test_long_lists(void) {
+    uint8_t labels[300];
+    size_t i;
+
+    for (i = 0; i < sizeof labels; i++) {
+        labels[i] = (uint8_t)(i + 1);
+    }
+    names_none(labels, 255);
+    labels[251] = 253;
+    labels[252] = 255;
+    labels[253] = 252;
+    labels[254] = 254;
+    names(labels, 255, named(NENTURXO_FIRST_CONDITION, 252, 253, 254, 255));
+    labels[100] = 103;
+    labels[101] = 101;
+    labels[102] = 104;
+    labels[103] = 102;
+    names(labels, 255, named(NENTURXO_SECOND_CONDITION, 101, 102, 103, 104));
+    names(labels, 251, named(NENTURXO_SECOND_CONDITION, 101, 102, 103, 104));
+    refuses_labels(labels, 256, NENTURXO_LIST_LENGTH);
+    refuses_labels(labels, 300, NENTURXO_LIST_LENGTH);
+    labels[254] = labels[253];
+    refuses_labels(labels, 255, NENTURXO_LABEL_TWICE);
+    labels[0] = 0;
+    refuses_labels(labels, 255, NENTURXO_LABEL_OUTSIDE);
+    refuses_labels(labels, 256, NENTURXO_LIST_LENGTH);
+
+    for (i = 0; i < 255; i++) {
+        labels[i] = (uint8_t)(i < 128 ? 2 * i + 1 : 510 - 2 * i);
+    }
+    names_none(labels, 255);
+    /* with the last two changed about, 2 comes between 3 and 4, and after 5 */
+    labels[253] = 2;
+    labels[254] = 4;
+    names(labels, 255, named(NENTURXO_FIRST_CONDITION, 2, 3, 254, 255));
+}
+
+static void test_pattern(void) {
+    const uint8_t first[] = {2, 4, 1, 3}, second[] = {3, 1, 4, 2}, one[] = {1};
+    const uint8_t rows[] = {3, 4, 1, 2}, five[] = {4, 1, 3, 5, 2}, seven[] = {2, 7, 3, 1, 5, 6, 4};
+    const uint8_t two_b_and_c[] = {3, 5, 6, 2, 1, 4}, both[] = {3, 1, 5, 2, 4};
+    const uint8_t later[] = {1, 8, 4, 6, 3, 5, 2, 7}, zero[] = {0}, outside[] = {1, 3};
+    const uint8_t twice[] = {2, 2}, barred_and_twice[] = {2, 4, 1, 3, 3};
+    const uint8_t twice_and_outside[] = {1, 1, 4}, outside_and_twice[] = {0, 2, 2};
+
+    names(first, 4, named(NENTURXO_FIRST_CONDITION, 1, 2, 3, 4));
+    names(second, 4, named(NENTURXO_SECOND_CONDITION, 1, 2, 3, 4));
+    test_parts_of_a_pattern();
+    /* of two places for b and two for c the first ones count */
+    names(two_b_and_c, 6, named(NENTURXO_FIRST_CONDITION, 1, 2, 4, 6));
+    /* at 1 3 4 5 the first condition is met too, but 1 2 3 4 come before */
+    names(both, 5, named(NENTURXO_SECOND_CONDITION, 1, 2, 3, 4));
+    names(later, 8, named(NENTURXO_FIRST_CONDITION, 3, 4, 5, 6));
+
+    names_none(one, 1);
+    names_none(rows, 4);
+    /* 4 1 5 2 is shaped like 3 1 4 2, but 2 is not the next label below 4 */
+    names_none(five, 5);
+    names_none(seven, 7);
+
+    /* 1 comes before 6, 6 before 7, and where one of them holds no pattern is
+     * named */
+    refuses_labels(first, 0, NENTURXO_LIST_LENGTH);
+    refuses_labels(zero, 1, NENTURXO_LABEL_OUTSIDE);
+    refuses_labels(outside, 2, NENTURXO_LABEL_OUTSIDE);
+    refuses_labels(twice_and_outside, 3, NENTURXO_LABEL_OUTSIDE);
+    refuses_labels(outside_and_twice, 3, NENTURXO_LABEL_OUTSIDE);
+    refuses_labels(twice, 2, NENTURXO_LABEL_TWICE);
+    refuses_labels(barred_and_twice, 5, NENTURXO_LABEL_TWICE);
+    test_long_lists();
+}
+
 int main(void) {
     test_labels_in();
     test_rooms_in();
@@ -428,6 +557,7 @@ int main(void) {
     test_question();
     test_tidy();
     test_tree();
+    test_pattern();
     CHECK(sum(never_written, sizeof never_written) == 0);
     printf("%d checks of the C interface, %d failed\n", checks, failures);
     return failures == 0 ? 0 : 1;

@@ -75,6 +75,16 @@ enum nenturxo_relation {
 #define NENTURXO_TOUCH 4
 #define NENTURXO_DIRECT 8
 
+/* Which of the two conditions of a barred pattern four labels meet: what
+ * nenturxo_pattern gives, divided by 2^32. For positions i < j < k < l with the
+ * labels a, b, c, d there, the first is c < a + 1 = d < b, and the second is
+ * b < d + 1 = a < c. */
+enum nenturxo_condition {
+    NENTURXO_NO_PATTERN = 0,
+    NENTURXO_FIRST_CONDITION = 1,
+    NENTURXO_SECOND_CONDITION = 2
+};
+
 /* A room. y grows upward. */
 typedef struct nenturxo_room {
     uint16_t left;
@@ -176,6 +186,30 @@ int32_t nenturxo_tidy(const uint8_t *text, size_t length,
  * 15. */
 int32_t nenturxo_tree(const uint8_t *record, size_t length,
                       uint8_t *tree, size_t capacity);
+
+/* Pattern: names the barred pattern for which nenturxo_labels_in refuses a
+ * label list with 8.
+ *
+ * labels     the label of the room at each position, from position 1
+ *
+ * Gives 0 if the list has no barred pattern. Else gives the four positions
+ * i < j < k < l of one, from 1 to n, and which of the two conditions the labels
+ * there meet, an enum nenturxo_condition, in one number:
+ *
+ *     condition * 2^32 + i * 2^24 + j * 2^16 + k * 2^8 + l
+ *
+ * Of this number, call it p, the condition is p >> 32, i is p >> 24 & 255, j is
+ * p >> 16 & 255, k is p >> 8 & 255, and l is p & 255.
+ *
+ * The four are the first ones in order of i, then j, then k, then l, whichever
+ * condition they meet. No four positions meet both. The labels 2 4 1 3 give
+ * 4311876356: the first condition, at the positions 1, 2, 3 and 4. The labels
+ * 3 1 4 2 give 8606843652: the second condition, at the same positions.
+ *
+ * Nothing is written. A list that nenturxo_labels_in accepts, or refuses with 15
+ * only, gives 0; one that it refuses with 8 gives a pattern; and any other one
+ * is refused as there. Refusals, in this order: 1, 6, 7. */
+int64_t nenturxo_pattern(const uint8_t *labels, size_t n);
 
 #ifdef __cplusplus
 }

@@ -107,6 +107,12 @@ pub const TREE: Call = Call {
     },
 };
 
+pub const PATTERN: Call = Call {
+    name: "Pattern",
+    times: |cases, calls| pattern(cases, calls, |case| &case.barred),
+    sheet: |cases| one_turn(cases, |case| reference::pattern(&case.barred)),
+};
+
 /// The times of so many calls of "Rooms in" on the lists of cases, accepted or
 /// refused.
 pub fn rooms_in<T>(cases: &[T], calls: usize, list_of: impl Fn(&T) -> &RoomList) -> Times {
@@ -141,5 +147,16 @@ pub fn tree(records: &[Vec<u8>], calls: usize) -> (Times, f64) {
         |record| nenturxo::tree(record, &mut tree),
         |record| fast::tree(record, &mut same),
         |record| fast::tree_by_intervals(record, &mut again),
+    )
+}
+
+/// The times of so many calls of "Pattern" on the label lists of cases, with a
+/// pattern or without.
+pub fn pattern<T>(cases: &[T], calls: usize, labels_of: impl Fn(&T) -> &[u8]) -> Times {
+    quickest(
+        cases,
+        calls,
+        |case| nenturxo::pattern(labels_of(case)),
+        |case| fast::pattern(labels_of(case)),
     )
 }

@@ -2,7 +2,7 @@
 
 use crate::outputs::{Drawing, Numbers};
 use crate::room_list::RoomList;
-use crate::{shapes, texts};
+use crate::{lists, shapes, texts};
 use compare::{of_library, Floorplan};
 use reference::cases::slicing::SlicingPlan;
 use reference::cases::text::mixed_text;
@@ -11,7 +11,8 @@ use reference::cases::Random;
 use reference::Numbering;
 
 /// A plan, as each call takes it. Each call accepts it, so that every step is
-/// walked and every result written.
+/// walked and every result written. But no plan has a pattern: for that call
+/// there is another label list.
 pub struct Case {
     pub labels: Vec<u8>,
     pub record: Vec<u8>,
@@ -23,6 +24,8 @@ pub struct Case {
     /// The record of a slicing plan with as many rooms, and its cutting tree.
     pub slicing: Vec<u8>,
     tree: Vec<u8>,
+    /// As many labels in a random order with a barred pattern, if there are 4.
+    pub barred: Vec<u8>,
     /// Two positions to ask for.
     pub first: u8,
     pub second: u8,
@@ -38,12 +41,13 @@ impl Case {
         plan.stretch(random);
         plan.shuffle(random);
         // Copies of the generator, so that the plans are the same as without
-        // texts and trees.
+        // texts, trees and patterns.
         let slicing = SlicingPlan::random(n, &mut random.clone());
         Self {
             text: mixed_text(&walked.labels, &mut random.clone()),
             slicing: slicing.record(),
             tree: slicing.tree.bytes(),
+            barred: lists::random_barred(n, &mut random.clone()),
             record: walked.record(),
             labels: walked.labels,
             list: RoomList::new(plan.rooms()),
@@ -62,6 +66,7 @@ impl Case {
         self.check_question();
         self.check_tidy();
         self.check_tree();
+        self.check_pattern();
     }
 
     fn check_labels_in(&self) {
@@ -121,5 +126,10 @@ impl Case {
     fn check_tree(&self) {
         let answer = shapes::answer(&self.slicing);
         assert_eq!(answer.as_ref(), Ok(&self.tree), "{:02X?}", self.slicing);
+    }
+
+    fn check_pattern(&self) {
+        let named = lists::answer(&self.barred);
+        assert!(named.is_some(), "{:?}", self.barred);
     }
 }

@@ -6,14 +6,19 @@
 
 mod calls;
 mod case;
+mod lists;
 mod outputs;
 mod room_list;
 mod shapes;
 mod texts;
 mod timing;
 
-use calls::{rooms_in, tidy, tree, Call, LABELS_IN, QUESTION, RECORD_IN, ROOMS_IN, TIDY, TREE};
+use calls::{
+    pattern, rooms_in, tidy, tree, Call, LABELS_IN, PATTERN, QUESTION, RECORD_IN, ROOMS_IN, TIDY,
+    TREE,
+};
 use case::Case;
+use lists::LISTS;
 use outputs::Numbers;
 use reference::cases::Random;
 use reference::Refusal;
@@ -21,6 +26,11 @@ use room_list::RoomList;
 use shapes::{Shape, SHAPES};
 use texts::{Kind, BROKEN_AT_THE_END, MANY_HANDS, TIDY_FORM, TOO_MANY_NUMBERS};
 use timing::{calls_in_a_round, ROUNDS};
+
+/// The calls.
+const EVERY_CALL: [Call; 7] = [
+    LABELS_IN, RECORD_IN, ROOMS_IN, QUESTION, TIDY, TREE, PATTERN,
+];
 
 /// Counts of rooms for the time of a call.
 const CALLS: [usize; 3] = [5, 40, 255];
@@ -34,6 +44,9 @@ const LABELS_OF_TEXTS: [usize; 2] = [40, 255];
 /// So many numbers that a text of them is longer than any that is read.
 const NUMBERS_OF_LONG_TEXTS: usize = 1300;
 
+/// The count of labels for lists with and without a pattern.
+const LABELS_OF_LISTS: usize = 255;
+
 /// Different plans for each count of rooms.
 const PLANS: usize = 512;
 
@@ -45,24 +58,20 @@ fn main() {
     println!("{PLANS} random plans for each n, quickest of {ROUNDS} rounds");
 
     print_head("nanoseconds per call");
-    for call in [LABELS_IN, RECORD_IN, ROOMS_IN, QUESTION, TIDY, TREE] {
+    for call in EVERY_CALL {
         for n in CALLS {
             let cases = cases(n);
             print_row(call, &cases, calls_in_a_round(&cases, n), 1.0);
         }
     }
 
-    print_refused_head("nanoseconds per call of Rooms in, refused");
-    // All but 1, which only the length of the list decides.
-    for &refusal in &Refusal::OF_ROOMS[1..] {
-        for n in CALLS {
-            print_refused_row(refusal, n);
-        }
-    }
+    print_refused("nanoseconds per call of Rooms in, refused");
 
     print_texts("nanoseconds per call of Tidy, by the text");
 
     print_shapes("nanoseconds per call of Tree, by the plan");
+
+    print_lists("nanoseconds per call of Pattern, by the list");
 
     print_head("nanoseconds per room");
     for call in [LABELS_IN, RECORD_IN, ROOMS_IN] {
@@ -123,10 +132,17 @@ fn print_row(call: Call, cases: &[Case], calls: usize, worth: f64) {
     println!(" {:>10.2} {:>6.2}", times.tuned * worth, times.ratio());
 }
 
-fn print_refused_head(title: &str) {
+/// Prints the times for lists with each refusal.
+fn print_refused(title: &str) {
     println!("\n{title}");
     print!("{:<9} {:>5} {:>10}", "", "n", "library");
     println!(" {:>10} {:>6}", "tuned", "ratio");
+    // All but 1, which only the length of the list decides.
+    for &refusal in &Refusal::OF_ROOMS[1..] {
+        for n in CALLS {
+            print_refused_row(refusal, n);
+        }
+    }
 }
 
 /// Prints the times for lists of `n` rooms that are refused so, and the ratio
@@ -186,4 +202,19 @@ fn print_shapes_row(shape: &Shape, n: usize) {
     print!(" {:>10.2} {:>6.2}", times.tuned, times.ratio());
     let ratio = times.library / by_intervals;
     println!(" {by_intervals:>12.2} {ratio:>6.2}");
+}
+
+/// Prints the times for label lists of each kind, and the ratio of the library
+/// to the tuned Rust version.
+fn print_lists(title: &str) {
+    println!("\n{title}");
+    print!("{:<14} {:>4} {:>10}", "", "n", "library");
+    println!(" {:>10} {:>6}", "tuned", "ratio");
+    let n = LABELS_OF_LISTS;
+    for kind in LISTS {
+        let lists = kind.lists(PLANS, n);
+        let times = pattern(&lists, calls_in_a_round(&lists, n), |labels| labels);
+        print!("{:<14} {n:>4} {:>10.2}", kind.name, times.library);
+        println!(" {:>10.2} {:>6.2}", times.tuned, times.ratio());
+    }
 }

@@ -16,6 +16,7 @@ mod lent;
 pub mod of_library;
 mod one_slice;
 mod outcome;
+mod pattern;
 pub mod plandraw;
 mod planlist;
 mod program;

@@ -1,6 +1,6 @@
-//! Rooms and relations in the library's own types.
+//! Rooms, relations and patterns in the library's own types.
 
-use reference::{Relation, Room, Side};
+use reference::{Condition, Pattern, Relation, Room, Side};
 
 /// A room as the library takes it.
 #[must_use]
@@ -30,4 +30,21 @@ pub fn relation(relation: Relation) -> nenturxo::Relation {
     };
     let direct = relation.direct;
     nenturxo::Relation { side, direct }
+}
+
+/// A pattern as the library names it.
+#[must_use]
+pub fn pattern(pattern: Pattern) -> nenturxo::Pattern {
+    let condition = match pattern.condition {
+        Condition::First => nenturxo::Condition::First,
+        Condition::Second => nenturxo::Condition::Second,
+    };
+    let Pattern { i, j, k, l, .. } = pattern;
+    nenturxo::Pattern {
+        condition,
+        i,
+        j,
+        k,
+        l,
+    }
 }

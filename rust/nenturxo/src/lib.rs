@@ -14,12 +14,14 @@
 
 #![deny(unsafe_code)]
 
+mod pattern;
 mod refusal;
 mod relation;
 mod room;
 #[allow(unsafe_code)]
 mod sys;
 
+pub use pattern::{Condition, Pattern};
 pub use refusal::Refusal;
 pub use relation::{Relation, Side};
 pub use room::Room;
@@ -287,6 +289,40 @@ pub fn tidy(text: &[u8], tidy: &mut [u8]) -> Result<usize, Refusal> {
 /// [19](Refusal::NOT_SLICING), [15](Refusal::SLICE_SHORT).
 pub fn tree(record: &[u8], tree: &mut [u8]) -> Result<usize, Refusal> {
     result(sys::tree(record, tree))
+}
+
+/// Pattern: names the barred pattern for which [`labels_in`] refuses a label
+/// list with [8](Refusal::BARRED_PATTERN), or gives `None` if the list has no
+/// such pattern.
+///
+/// `labels` has the label of the room at each position.
+///
+/// The four positions are the first ones in order of `i`, then `j`, then `k`,
+/// then `l`, whichever of the two conditions the labels there meet. No four
+/// positions meet both.
+///
+/// ```
+/// use nenturxo::{pattern, Condition, Pattern, Refusal};
+///
+/// let named = pattern(&[6, 2, 4, 1, 3, 5])?;
+/// let condition = Condition::First;
+/// assert_eq!(named, Some(Pattern { condition, i: 2, j: 3, k: 4, l: 5 }));
+///
+/// assert_eq!(pattern(&[4, 1, 3, 5, 2])?, None);
+/// assert_eq!(pattern(&[2, 4, 1, 1]), Err(Refusal::LABEL_TWICE));
+/// # Ok::<(), Refusal>(())
+/// ```
+///
+/// # Errors
+///
+/// The first of these that holds: [1](Refusal::LIST_LENGTH),
+/// [6](Refusal::LABEL_OUTSIDE), [7](Refusal::LABEL_TWICE).
+pub fn pattern(labels: &[u8]) -> Result<Option<Pattern>, Refusal> {
+    let code = sys::pattern(labels);
+    if code < 0 {
+        return Err(Refusal::from_code(code));
+    }
+    Ok(Pattern::from_code(code))
 }
 
 /// The result that a code stands for.

@@ -1,6 +1,6 @@
 //! The sheet's numbered refusals.
 
-use crate::sys::Code;
+use crate::sys::LongCode;
 use std::fmt;
 
 /// A refusal: the call found a cause not to give its result, and wrote
@@ -59,9 +59,10 @@ impl Refusal {
     /// 19: the plan is not slicing
     pub const NOT_SLICING: Self = Self(19);
 
-    /// The refusal that a code below 0 stands for.
-    pub(crate) const fn from_code(code: Code) -> Self {
-        Self(code.unsigned_abs())
+    /// The refusal that a code below 0 stands for, be it long or not. A
+    /// refusal's number is small.
+    pub(crate) fn from_code(code: impl Into<LongCode>) -> Self {
+        Self(code.into().unsigned_abs() as u32)
     }
 
     /// The refusal's number in the sheet's table.

@@ -6,8 +6,11 @@ use crate::Room;
 /// negated.
 pub type Code = i32;
 
+/// The same, where a result is too large for 32 bits.
+pub type LongCode = i64;
+
 mod c {
-    use super::{Code, Room};
+    use super::{Code, LongCode, Room};
 
     extern "C" {
         pub fn nenturxo_labels_in(
@@ -48,6 +51,8 @@ mod c {
         pub fn nenturxo_tidy(text: *const u8, n: usize, tidy: *mut u8, capacity: usize) -> Code;
 
         pub fn nenturxo_tree(record: *const u8, n: usize, tree: *mut u8, capacity: usize) -> Code;
+
+        pub fn nenturxo_pattern(labels: *const u8, n: usize) -> LongCode;
     }
 }
 
@@ -138,4 +143,11 @@ pub fn tree(record: &[u8], tree: &mut [u8]) -> Code {
     // them say, the second one for writing too, and as one of the two slices
     // is borrowed mutably they do not overlap. The call keeps no pointer.
     unsafe { c::nenturxo_tree(record.as_ptr(), record.len(), tree.as_mut_ptr(), tree.len()) }
+}
+
+/// `nenturxo_pattern` on a slice.
+pub fn pattern(labels: &[u8]) -> LongCode {
+    // SAFETY: the pointer is good for as many bytes as the length beside it
+    // says. The call keeps no pointer.
+    unsafe { c::nenturxo_pattern(labels.as_ptr(), labels.len()) }
 }

@@ -4,6 +4,7 @@
 //! No call uses any of it.
 
 pub mod asked;
+pub mod barred;
 mod random;
 pub mod slicing;
 mod small;

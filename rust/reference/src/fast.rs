@@ -2,6 +2,7 @@
 
 mod basics;
 mod labels;
+mod pattern;
 mod plan;
 mod rooms;
 mod steps;
@@ -14,6 +15,7 @@ mod tree_checks;
 mod walks;
 
 pub use labels::labels_in;
+pub use pattern::pattern;
 pub use plan::{question, record_in};
 pub use rooms::rooms_in;
 pub use tidy::tidy;

@@ -19,21 +19,22 @@ pub fn labels_in(labels: &[u8], record: &mut [u8]) -> Result<usize, Refusal> {
     Ok(bytes.len())
 }
 
-/// A Baxter list: what a label list is that has none of the causes 1, 6, 7
-/// and 8.
-pub(crate) struct BaxterList {
+/// A list of the labels 1 to n, each once: what a label list is that has none
+/// of the causes 1, 6 and 7.
+pub(crate) struct LabelList {
     /// The number of labels.
     pub(crate) n: u8,
     /// The labels by position.
     pub(crate) labels: Vec<u8>,
 }
 
-/// The Baxter list that a list of numbers is, be they bytes or larger.
+/// The list of the labels 1 to n, each once, that a list of numbers is, be they
+/// bytes or larger.
 ///
 /// # Errors
 ///
-/// The first cause found in the order 1, 6, 7, 8.
-pub(crate) fn baxter_list_of<T>(numbers: &[T]) -> Result<BaxterList, Refusal>
+/// The first cause found in the order 1, 6, 7.
+pub(crate) fn label_list_of<T>(numbers: &[T]) -> Result<LabelList, Refusal>
 where
     T: Copy + TryInto<u8>,
 {
@@ -48,10 +49,23 @@ where
     if occurs_twice(&labels) {
         return Err(Refusal::LabelTwice);
     }
-    if is_barred(&labels) {
+    Ok(LabelList { n, labels })
+}
+
+/// The Baxter list that a list of numbers is, be they bytes or larger.
+///
+/// # Errors
+///
+/// The first cause found in the order 1, 6, 7, 8.
+pub(crate) fn baxter_list_of<T>(numbers: &[T]) -> Result<LabelList, Refusal>
+where
+    T: Copy + TryInto<u8>,
+{
+    let list = label_list_of(numbers)?;
+    if is_barred(&list.labels) {
         return Err(Refusal::BarredPattern);
     }
-    Ok(BaxterList { n, labels })
+    Ok(list)
 }
 
 /// The number of entries, if there are 1 to 255.

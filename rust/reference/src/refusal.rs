@@ -87,6 +87,10 @@ impl Refusal {
         Self::BarredPattern,
     ];
 
+    /// What a label list is refused with where its pattern is asked for, in the
+    /// request's order.
+    pub const OF_PATTERNS: [Self; 3] = [Self::ListLength, Self::LabelOutside, Self::LabelTwice];
+
     /// What a record is refused with, in the sheet's order, before 15, or 16
     /// and 17.
     pub const OF_RECORDS: [Self; 6] = [
@@ -175,6 +179,7 @@ mod tests {
         let numbers = |order: &[Refusal]| order.iter().map(|r| r.number()).collect::<Vec<u8>>();
         assert_eq!(numbers(&Refusal::OF_ROOMS), [1, 2, 3, 4, 5]);
         assert_eq!(numbers(&Refusal::OF_LABELS), [1, 6, 7, 8]);
+        assert_eq!(numbers(&Refusal::OF_PATTERNS), [1, 6, 7]);
         assert_eq!(numbers(&Refusal::OF_RECORDS), [9, 10, 11, 14, 12, 13]);
         assert_eq!(numbers(&Refusal::OF_TREES), [9, 10, 11, 14, 12, 13, 19]);
         assert_eq!(numbers(&Refusal::OF_TEXTS), [18, 1, 6, 7, 8]);

@@ -1,6 +1,6 @@
 //! The calls.
 
-use crate::{labels, records, rooms, texts};
+use crate::{labels, patterns, records, rooms, texts};
 use compare::Tally;
 use reference::cases::Random;
 use reference::Refusal;
@@ -14,7 +14,7 @@ pub struct Call {
     /// Compares some inputs, a number of which [`BATCH`] is a multiple.
     compare_some: fn(&mut Tally, &mut Random),
     /// What it can be refused with, in the sheet's order: for its input, and
-    /// then for the slices or the positions that come with it.
+    /// then for the slices or the positions that come with it, if any do.
     refusals: [&'static [Refusal]; 2],
 }
 
@@ -25,7 +25,7 @@ const OF_SLICES: &[Refusal] = &[Refusal::SliceShort];
 const OF_POSITIONS: &[Refusal] = &[Refusal::PositionOutside, Refusal::PositionsEqual];
 
 /// The calls of the library.
-pub const CALLS: [Call; 6] = [
+pub const CALLS: [Call; 7] = [
     Call {
         name: "Labels in",
         compare_some: labels::compare_some,
@@ -55,6 +55,11 @@ pub const CALLS: [Call; 6] = [
         name: "Tree",
         compare_some: records::cut_some,
         refusals: [&Refusal::OF_TREES, OF_SLICES],
+    },
+    Call {
+        name: "Pattern",
+        compare_some: patterns::compare_some,
+        refusals: [&Refusal::OF_PATTERNS, &[]],
     },
 ];
 

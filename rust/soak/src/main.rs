@@ -12,6 +12,7 @@
 
 mod call;
 mod labels;
+mod patterns;
 mod records;
 mod rooms;
 mod size;
@@ -25,7 +26,7 @@ use std::sync::atomic::{AtomicUsize, Ordering};
 use std::{env, panic, process, thread};
 
 /// Batches, unless the argument says otherwise.
-const BATCHES: usize = 7_500;
+const BATCHES: usize = 8_750;
 
 const THREADS: usize = 2;
 

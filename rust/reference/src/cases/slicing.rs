@@ -1,6 +1,7 @@
 //! Slicing plans of any size, made from their cutting trees, and plans that
 //! are not slicing for one pinwheel in them.
 
+use super::barred::with_a_block;
 use super::walk::Walked;
 use super::Random;
 use crate::{triples, Cut, CuttingTree};
@@ -109,11 +110,7 @@ impl SlicingPlan {
     /// It has four rooms more.
     #[must_use]
     pub fn with_a_pinwheel(&self, place: usize, pinwheel: [u8; 5]) -> Walked {
-        let old = self.walked.labels[place];
-        let moved = |label: u8| if label > old { label + 4 } else { label };
-        let mut labels: Vec<u8> = self.walked.labels.iter().copied().map(moved).collect();
-        labels.splice(place..=place, pinwheel.map(|label| old - 1 + label));
-        walked(labels)
+        walked(with_a_block(&self.walked.labels, place, &pinwheel))
     }
 }
 
