@@ -58,3 +58,10 @@ module _ (P : ℕ → Type 0) (d : (i : ℕ) → Dec (P i)) where
       go : Last P a e ⊎ Each (λ i. ¬ P i) a e → Dec (Some P a e)
       go (inl r) = yes (r .at, r .from, r .to, r .has)
       go (inr f) = no (λ s. f (s .0) (s .1) (s .2) (s .3))
+
+-- none has P, nor has one more
+pub none-more : (P : ℕ → Type 0) (a e : ℕ) → ¬ Some P a e → ¬ P e → ¬ Some P a (suc e)
+none-more P a e none not (i, from, to, has) = elim (eq-or-lt-of-le (le-of-suc-le-suc to)) [
+  | inl same ↦ not (subst P same has)
+  | inr l ↦ none (i, from, l, has)
+]

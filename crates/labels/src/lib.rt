@@ -18,7 +18,7 @@ pub enum Verdict {
 }
 
 // Whether some label is not one of 1 to n. No early end: the whole list costs less than the tests.
-fn outside(labels: &[u8]) -> bool
+pub fn outside(labels: &[u8]) -> bool
     requires { ⌜ length (now labels) ≤ 255 ⌝ }
     ensures { λ r. ⌜ Tells r (LabelOutside (now (labels .entry))) ⌝ }
 {

@@ -1,4 +1,4 @@
 -- Laws that the functions' proofs cite.
 pub mod Placed
 pub mod Compared
-pub mod Told
+pub mod Refused

@@ -2,12 +2,13 @@
 use mathlib.Core.List.{List}
 use mathlib.Core.Logic.{_≢_, inl, inr}
 use mathlib.Core.Path.{_≡_, sym, ap, _∙_}
-use Prim.Native.Nat.{ℕ, suc, _<_}
+use Prim.Native.Nat.{ℕ, suc, _≤_, _<_}
 use native.Mathlib.Omega.{arith}
 use native.Mathlib.Decide.{ℕ-discrete}
 use lib.ListN.{getD, set, replicate, getD-replicate, length-set, length-replicate}
 use lib.Seq.{getD-set-same, getD-set-other}
 use Rattle.finite.specs.Decide.{eq-or-ne}
+use Rattle.finite.specs.Search.{Some}
 use Rattle.patterns.specs.Completion.{Place}
 use Rattle.searching.specs.Places.{Places}
 
@@ -44,3 +45,17 @@ module _ (f : ℕ → ℕ) (k : ℕ) (places : List ℕ) (small : f (suc k) < 25
       go : (x : ℕ) → x < 257 → Dec (x ≡ f (suc k)) → Place f (suc k) x (getD more x 0)
       go x h (yes e) = rw (e, here) here-place
       go x h (no differs) = rw (getD-set-other places (f (suc k)) x (suc k) 0 differs) (there-place x differs (placed .each x h))
+
+-- ---- labels that occur twice
+-- the label of position j stands at an earlier position too
+abbrev pub TwiceAt : (f : ℕ → ℕ) (j : ℕ) → Type 0
+TwiceAt f j = Some (λ i. f i ≡ f j) 1 j
+
+module _ (f : ℕ → ℕ) (k : ℕ) {p : ℕ} (place : Place f k (f (suc k)) p) where
+  -- the label of the new position has a place
+  pub twice-here : 1 ≤ p → TwiceAt f (suc k)
+  twice-here some = (p, some, omega (arith, place .within), place .own some)
+
+  -- it has none
+  pub not-twice-here : p ≡ 0 → ¬ TwiceAt f (suc k)
+  not-twice-here none (i, from, to, same) = place .after i (omega arith) (omega arith) same
