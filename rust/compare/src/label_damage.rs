@@ -1,5 +1,6 @@
-//! Damage that is done to label lists.
+//! Damage that is done to label lists, and lists that have it.
 
+use reference::cases::walk::biased_list;
 use reference::cases::Random;
 use reference::is_barred;
 
@@ -37,4 +38,35 @@ pub fn swap_until_barred(labels: &mut [u8], random: &mut Random) {
         let (one, other) = (random.below(labels.len()), random.below(labels.len()));
         labels.swap(one, other);
     }
+}
+
+/// A Baxter list with room for damage.
+pub fn sound(random: &mut Random) -> Vec<u8> {
+    let n = match random.below(3) {
+        0 => random.between(6, 24),
+        1 => random.between(6, 255),
+        _ => random.between(250, 255),
+    };
+    biased_list(n, random).labels
+}
+
+/// As [`sound`], but with labels changed about until some pattern is barred.
+pub fn barred(random: &mut Random) -> Vec<u8> {
+    let mut labels = sound(random);
+    swap_until_barred(&mut labels, random);
+    labels
+}
+
+/// The list with some labels put twice.
+pub fn repeated(mut labels: Vec<u8>, times: usize, random: &mut Random) -> Vec<u8> {
+    for _ in 0..times {
+        repeat_a_label(&mut labels, random);
+    }
+    labels
+}
+
+/// The list with a label outside 1 to n.
+pub fn outside(mut labels: Vec<u8>, random: &mut Random) -> Vec<u8> {
+    put_a_label_outside(&mut labels, random);
+    labels
 }

@@ -1,10 +1,9 @@
 //! Baxter lists with damage: each refusal for its own cause, and in the
 //! order 1, 6, 7, 8, 15 where there are several.
 
-use compare::label_damage::{put_a_label_outside, repeat_a_label, swap_until_barred, two_places};
+use compare::label_damage::{barred, outside, repeated, sound, two_places};
 use compare::records::record_length;
 use compare::Tally;
-use reference::cases::walk::biased_list;
 use reference::cases::Random;
 use reference::Refusal;
 
@@ -12,37 +11,6 @@ use reference::Refusal;
 fn capacities(n: usize) -> [usize; 4] {
     let needed = record_length(n);
     [0, needed - 1, needed, 100]
-}
-
-/// A Baxter list with room for damage.
-fn sound(random: &mut Random) -> Vec<u8> {
-    let n = match random.below(3) {
-        0 => random.between(6, 24),
-        1 => random.between(6, 255),
-        _ => random.between(250, 255),
-    };
-    biased_list(n, random).labels
-}
-
-/// As [`sound`], but with labels changed about until some pattern is barred.
-fn barred(random: &mut Random) -> Vec<u8> {
-    let mut labels = sound(random);
-    swap_until_barred(&mut labels, random);
-    labels
-}
-
-/// The list with some labels put twice.
-fn repeated(mut labels: Vec<u8>, times: usize, random: &mut Random) -> Vec<u8> {
-    for _ in 0..times {
-        repeat_a_label(&mut labels, random);
-    }
-    labels
-}
-
-/// The list with a label outside 1 to n.
-fn outside(mut labels: Vec<u8>, random: &mut Random) -> Vec<u8> {
-    put_a_label_outside(&mut labels, random);
-    labels
 }
 
 /// A name, a seed, the refusal and the damaged lists that have it.

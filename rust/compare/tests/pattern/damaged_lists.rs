@@ -1,43 +1,11 @@
 //! Lists with damage: each refusal for its own cause, and in the order 1, 6, 7
 //! where there are several, whatever patterns there are.
 
-use compare::label_damage::{put_a_label_outside, repeat_a_label, swap_until_barred};
+use compare::label_damage::{barred, outside, repeated, sound};
 use compare::{report, Tally};
 use nenturxo::RECORD_CAPACITY;
-use reference::cases::walk::biased_list;
 use reference::cases::Random;
 use reference::Refusal;
-
-/// A Baxter list with room for damage.
-fn sound(random: &mut Random) -> Vec<u8> {
-    let n = match random.below(3) {
-        0 => random.between(6, 24),
-        1 => random.between(6, 255),
-        _ => random.between(250, 255),
-    };
-    biased_list(n, random).labels
-}
-
-/// As [`sound`], but with labels changed about until some pattern is barred.
-fn barred(random: &mut Random) -> Vec<u8> {
-    let mut labels = sound(random);
-    swap_until_barred(&mut labels, random);
-    labels
-}
-
-/// The list with some labels put twice.
-fn repeated(mut labels: Vec<u8>, times: usize, random: &mut Random) -> Vec<u8> {
-    for _ in 0..times {
-        repeat_a_label(&mut labels, random);
-    }
-    labels
-}
-
-/// The list with a label outside 1 to n.
-fn outside(mut labels: Vec<u8>, random: &mut Random) -> Vec<u8> {
-    put_a_label_outside(&mut labels, random);
-    labels
-}
 
 /// A name, a seed, the refusal and the damaged lists that have it.
 type Damaged = (&'static str, u64, Refusal, fn(&mut Random) -> Vec<u8>);
