@@ -99,104 +99,259 @@ typedef struct {
     uint8_t record[NENTURXO_RECORD_CAPACITY];
     uint8_t labels[NENTURXO_ROOMS_CAPACITY];
     uint8_t positions[NENTURXO_ROOMS_CAPACITY];
+    uint16_t names[NENTURXO_ROOMS_CAPACITY];
 } rooms_out;
 
-static int32_t rooms_in(const nenturxo_room *rooms, size_t n, rooms_out *out) {
+/* How many places the output slices have: for the record, the labels, the
+ * positions and the names. */
+typedef size_t rooms_places[4];
+
+static const rooms_places enough = {NENTURXO_RECORD_CAPACITY, NENTURXO_ROOMS_CAPACITY,
+                                    NENTURXO_ROOMS_CAPACITY, NENTURXO_ROOMS_CAPACITY};
+static const rooms_places none = {0, 0, 0, 0};
+
+static int32_t rooms_in(const nenturxo_room *rooms, size_t n, const size_t *places,
+                        rooms_out *out) {
     memset(out, UNTOUCHED, sizeof *out);
-    return nenturxo_rooms_in(rooms, n, out->record, sizeof out->record, out->labels,
-                             sizeof out->labels, out->positions, sizeof out->positions);
+    return nenturxo_rooms_in(rooms, n, out->record, places[0], out->labels, places[1],
+                             out->positions, places[2], out->names, places[3]);
 }
 
+/* With slices that are long enough and with none. */
 static void refuses_rooms(const nenturxo_room *rooms, size_t n, int refusal) {
     rooms_out out;
-    CHECK(rooms_in(rooms, n, &out) == -refusal);
+    CHECK(rooms_in(rooms, n, enough, &out) == -refusal);
+    CHECK(all_untouched(&out, sizeof out));
+    CHECK(rooms_in(rooms, n, none, &out) == -refusal);
     CHECK(all_untouched(&out, sizeof out));
 }
 
-static void test_rooms_in(void) {
-    const nenturxo_room beside[] = {{1, 0, 2, 1}, {0, 0, 1, 1}};
+/* The five rooms of the sheet's pinwheel, in another order than that of their
+ * positions, with these names. */
+static void name_five(nenturxo_room *rooms, const uint16_t *names) {
     const nenturxo_room five[] = {
-        {2, 4, 5, 5}, {0, 0, 3, 1}, {3, 0, 5, 4}, {0, 1, 2, 5}, {2, 1, 3, 4}};
-    const nenturxo_room empty[] = {{0, 0, 1, 1}, {1, 0, 1, 1}};
-    const nenturxo_room shared[] = {{0, 0, 2, 2}, {1, 1, 3, 3}};
-    const nenturxo_room apart[] = {{0, 0, 1, 1}, {2, 0, 3, 1}};
-    const nenturxo_room four[] = {{0, 0, 1, 1}, {1, 0, 2, 1}, {0, 1, 1, 2}, {1, 1, 2, 2}};
-    const uint8_t two_labels[] = {2, 1}, two_record[] = {0x02, 0x40};
+        {2, 4, 5, 5, 0}, {0, 0, 3, 1, 0}, {3, 0, 5, 4, 0}, {0, 1, 2, 5, 0}, {2, 1, 3, 4, 0}};
+    int i;
+    for (i = 0; i < 5; i++) {
+        rooms[i] = five[i];
+        rooms[i].name = names[i];
+    }
+}
+
+/* Whatever their names, in slices of so many places the five have this record,
+ * these labels and positions; by position they have the names that are
+ * expected. */
+static void five_give(const uint16_t *names, const size_t *places, const uint16_t *expected) {
     const uint8_t record[] = {0x05, 0x31, 0x70};
     const uint8_t labels[] = {2, 4, 5, 1, 3}, positions[] = {5, 1, 4, 2, 3};
+    nenturxo_room five[5];
     rooms_out out;
 
-    CHECK(rooms_in(beside, 2, &out) == 2);
-    CHECK(memcmp(out.record, two_record, 2) == 0);
-    CHECK(memcmp(out.labels, two_labels, 2) == 0);
-    CHECK(memcmp(out.positions, two_labels, 2) == 0);
-
-    CHECK(rooms_in(five, 5, &out) == 3);
-    CHECK(memcmp(out.record, record, 3) == 0);
-    CHECK(memcmp(out.labels, labels, 5) == 0);
-    CHECK(memcmp(out.positions, positions, 5) == 0);
+    name_five(five, names);
+    CHECK(rooms_in(five, 5, places, &out) == 3);
+    CHECK(memcmp(out.record, record, sizeof record) == 0);
+    CHECK(memcmp(out.labels, labels, sizeof labels) == 0);
+    CHECK(memcmp(out.positions, positions, sizeof positions) == 0);
+    CHECK(memcmp(out.names, expected, 5 * sizeof *expected) == 0);
     CHECK(all_untouched(out.record + 3, sizeof out.record - 3));
     CHECK(all_untouched(out.labels + 5, sizeof out.labels - 5));
     CHECK(all_untouched(out.positions + 5, sizeof out.positions - 5));
+    CHECK(all_untouched(out.names + 5, sizeof out.names - 5 * sizeof *out.names));
+}
 
-    refuses_rooms(five, 0, NENTURXO_LIST_LENGTH);
+/* Any number of rooms may be unnamed; no other name may occur twice. */
+static void test_names(void) {
+    const uint16_t unnamed[] = {0, 0, 0, 0, 0};
+    const uint16_t named[] = {50, 10, 40, 20, 30}, by_position[] = {10, 20, 30, 40, 50};
+    const uint16_t some[] = {0, 65535, 0, 1, 0}, some_by_position[] = {65535, 1, 0, 0, 0};
+    /* each of the others differs from the first one in one bit */
+    const uint16_t bits[] = {2, 258, 1026, 32770, 3}, bits_by_position[] = {258, 32770, 3, 1026, 2};
+    const uint16_t ends[] = {7, 0, 0, 0, 7}, beside[] = {0, 65535, 65535, 0, 1};
+    nenturxo_room five[5];
+
+    five_give(unnamed, enough, unnamed);
+    five_give(named, enough, by_position);
+    five_give(some, enough, some_by_position);
+    five_give(bits, enough, bits_by_position);
+    name_five(five, ends);
+    refuses_rooms(five, 5, NENTURXO_NAME_TWICE);
+    name_five(five, beside);
+    refuses_rooms(five, 5, NENTURXO_NAME_TWICE);
+}
+
+/* Each slice in turn is one too short, with names and without, or one longer
+ * than it need be, while the others are just long enough; and all are just long
+ * enough. One name on two rooms comes before a short slice. */
+static void test_places(void) {
+    const uint16_t names[] = {50, 10, 40, 20, 30}, by_position[] = {10, 20, 30, 40, 50};
+    const uint16_t twice[] = {50, 10, 40, 20, 50}, no_names[] = {0, 0, 0, 0, 0};
+    const rooms_places needed = {3, 5, 5, 5};
+    nenturxo_room named[5], unnamed[5], named_twice[5];
+    rooms_out out;
+    int which;
+
+    name_five(named, names);
+    name_five(unnamed, no_names);
+    name_five(named_twice, twice);
+    for (which = 0; which < 4; which++) {
+        rooms_places places;
+        memcpy(places, needed, sizeof places);
+        places[which]--;
+        CHECK(rooms_in(named, 5, places, &out) == -NENTURXO_SLICE_SHORT);
+        CHECK(all_untouched(&out, sizeof out));
+        CHECK(rooms_in(unnamed, 5, places, &out) == -NENTURXO_SLICE_SHORT);
+        CHECK(all_untouched(&out, sizeof out));
+        CHECK(rooms_in(named_twice, 5, places, &out) == -NENTURXO_NAME_TWICE);
+        CHECK(all_untouched(&out, sizeof out));
+        places[which] += 2;
+        five_give(names, places, by_position);
+    }
+    five_give(names, needed, by_position);
+}
+
+static void test_rooms_in(void) {
+    const nenturxo_room beside[] = {{1, 0, 2, 1, 0}, {0, 0, 1, 1, 9}};
+    /* one name is on two rooms in each of these, and yet it is refused first
+     * for what its corners lack */
+    const nenturxo_room empty[] = {{0, 0, 1, 1, 9}, {1, 0, 1, 1, 9}};
+    const nenturxo_room shared[] = {{0, 0, 2, 2, 9}, {1, 1, 3, 3, 9}};
+    const nenturxo_room apart[] = {{0, 0, 1, 1, 9}, {2, 0, 3, 1, 9}};
+    const nenturxo_room four[] = {
+        {0, 0, 1, 1, 9}, {1, 0, 2, 1, 9}, {0, 1, 1, 2, 9}, {1, 1, 2, 2, 9}};
+    const uint8_t two_labels[] = {2, 1}, two_record[] = {0x02, 0x40};
+    const uint16_t two_names[] = {9, 0};
+    nenturxo_room many[256];
+    rooms_out out;
+    int i;
+
+    CHECK(rooms_in(beside, 2, enough, &out) == 2);
+    CHECK(memcmp(out.record, two_record, 2) == 0);
+    CHECK(memcmp(out.labels, two_labels, 2) == 0);
+    CHECK(memcmp(out.positions, two_labels, 2) == 0);
+    CHECK(memcmp(out.names, two_names, sizeof two_names) == 0);
+
+    for (i = 0; i < 256; i++) {
+        many[i] = beside[1];
+    }
+    refuses_rooms(many, 256, NENTURXO_LIST_LENGTH);
+    refuses_rooms(many, 0, NENTURXO_LIST_LENGTH);
     refuses_rooms(empty, 2, NENTURXO_EMPTY_ROOM);
     refuses_rooms(shared, 2, NENTURXO_SHARED_SQUARE);
     refuses_rooms(apart, 2, NENTURXO_OPEN_SQUARE);
     refuses_rooms(four, 4, NENTURXO_FOUR_ROOMS_MEET);
-
-    CHECK(nenturxo_rooms_in(five, 5, out.record, 2, out.labels, 5, out.positions, 5) ==
-          -NENTURXO_SLICE_SHORT);
-    CHECK(nenturxo_rooms_in(five, 5, out.record, 3, out.labels, 4, out.positions, 5) ==
-          -NENTURXO_SLICE_SHORT);
-    CHECK(nenturxo_rooms_in(five, 5, out.record, 3, out.labels, 5, out.positions, 4) ==
-          -NENTURXO_SLICE_SHORT);
-    CHECK(nenturxo_rooms_in(five, 5, out.record, 3, out.labels, 5, out.positions, 5) == 3);
+    test_names();
+    test_places();
 }
 
 /* ---- Record in */
 
 typedef struct {
     uint8_t labels[NENTURXO_ROOMS_CAPACITY];
-    uint16_t left[NENTURXO_ROOMS_CAPACITY];
-    uint16_t bottom[NENTURXO_ROOMS_CAPACITY];
-    uint16_t right[NENTURXO_ROOMS_CAPACITY];
-    uint16_t top[NENTURXO_ROOMS_CAPACITY];
+    nenturxo_room rooms[NENTURXO_ROOMS_CAPACITY];
 } record_out;
 
-/* With output slices of so many places. */
-static int32_t record_in(const uint8_t *record, size_t length, size_t places, record_out *out) {
+/* With so many places for labels, and for rooms. */
+static int32_t record_in(const uint8_t *record, size_t length, size_t labels, size_t rooms,
+                         record_out *out) {
     memset(out, UNTOUCHED, sizeof *out);
-    return nenturxo_record_in(record, length, out->labels, places, out->left, places, out->bottom,
-                              places, out->right, places, out->top, places);
+    return nenturxo_record_in(record, length, out->labels, labels, out->rooms, rooms);
 }
 
 static void refuses_record(const uint8_t *record, size_t length, int refusal) {
     record_out out;
-    CHECK(record_in(record, length, NENTURXO_ROOMS_CAPACITY, &out) == -refusal);
+    CHECK(record_in(record, length, COUNT(out.labels), COUNT(out.rooms), &out) == -refusal);
+    CHECK(all_untouched(&out, sizeof out));
+    CHECK(record_in(record, length, 0, 0, &out) == -refusal);
     CHECK(all_untouched(&out, sizeof out));
     CHECK(nenturxo_question(record, length, 1, 2) == -refusal);
 }
 
-static void test_record_in(void) {
+/* A record becomes its rooms, and the rooms, as they were written, the record
+ * again. */
+static void comes_back(const uint8_t *record, size_t length) {
+    record_out drawn;
+    rooms_out out;
+    int i, n = record[0];
+
+    CHECK(record_in(record, length, COUNT(drawn.labels), COUNT(drawn.rooms), &drawn) == n);
+    CHECK(rooms_in(drawn.rooms, (size_t)n, enough, &out) == (int32_t)length);
+    CHECK(memcmp(out.record, record, length) == 0);
+    CHECK(memcmp(out.labels, drawn.labels, (size_t)n) == 0);
+    for (i = 0; i < n; i++) {
+        CHECK(drawn.rooms[i].name == 0);
+        CHECK(out.positions[i] == i + 1);
+        CHECK(out.names[i] == 0);
+    }
+}
+
+/* A drawing of 255 rooms that are then named, by position: the record is the
+ * same, and the names come back, unless the first is on the last room too. */
+static void test_named_drawing(const uint8_t *record) {
+    record_out drawn;
+    rooms_out out;
+    int i;
+
+    CHECK(record_in(record, NENTURXO_RECORD_CAPACITY, 255, 255, &drawn) == 255);
+    for (i = 0; i < 255; i++) {
+        drawn.rooms[i].name = (uint16_t)(65535 - 256 * i);
+    }
+    CHECK(rooms_in(drawn.rooms, 255, enough, &out) == NENTURXO_RECORD_CAPACITY);
+    CHECK(memcmp(out.record, record, sizeof out.record) == 0);
+    for (i = 0; i < 255; i++) {
+        CHECK(out.names[i] == drawn.rooms[i].name);
+    }
+    drawn.rooms[254].name = drawn.rooms[0].name;
+    refuses_rooms(drawn.rooms, 255, NENTURXO_NAME_TWICE);
+}
+
+static void test_round_trips(void) {
+    const uint8_t one[] = {0x01}, five[] = {0x05, 0x31, 0x70}, seven[] = {0x07, 0x0E, 0x8D, 0xC0};
+    uint8_t labels[NENTURXO_ROOMS_CAPACITY], record[NENTURXO_RECORD_CAPACITY];
+    int i;
+
+    comes_back(one, sizeof one);
+    comes_back(five, sizeof five);
+    comes_back(seven, sizeof seven);
+    for (i = 0; i < 255; i++) {
+        labels[i] = (uint8_t)(255 - i);
+    }
+    CHECK(nenturxo_labels_in(labels, 255, record, sizeof record) == NENTURXO_RECORD_CAPACITY);
+    comes_back(record, sizeof record);
+    test_named_drawing(record);
+}
+
+/* With so many places for labels, and for rooms, a record gives what the sheet
+ * says. */
+static void five_are_drawn(size_t label_places, size_t room_places) {
     const uint8_t record[] = {0x05, 0x31, 0x70}, labels[] = {4, 1, 3, 5, 2};
-    const uint16_t left[] = {0, 0, 2, 3, 2}, bottom[] = {0, 1, 1, 0, 4};
-    const uint16_t right[] = {3, 2, 3, 5, 5}, top[] = {1, 5, 4, 4, 5};
+    const nenturxo_room rooms[] = {
+        {0, 0, 3, 1, 0}, {0, 1, 2, 5, 0}, {2, 1, 3, 4, 0}, {3, 0, 5, 4, 0}, {2, 4, 5, 5, 0}};
+    record_out out;
+
+    CHECK(record_in(record, 3, label_places, room_places, &out) == 5);
+    CHECK(memcmp(out.labels, labels, sizeof labels) == 0);
+    CHECK(memcmp(out.rooms, rooms, sizeof rooms) == 0);
+    CHECK(all_untouched(out.labels + 5, sizeof out.labels - sizeof labels));
+    CHECK(all_untouched(out.rooms + 5, sizeof out.rooms - sizeof rooms));
+}
+
+static void test_record_in(void) {
+    const uint8_t record[] = {0x05, 0x31, 0x70};
     const uint8_t no_kind[] = {0x00}, body_short[] = {0x02}, after[] = {0x01, 0x00};
     const uint8_t spare[] = {0x02, 0xC1}, missing[] = {0x02, 0x60}, left_over[] = {0x02, 0x00};
     record_out out;
 
-    CHECK(record_in(record, 3, 6, &out) == 5);
-    CHECK(memcmp(out.labels, labels, sizeof labels) == 0);
-    CHECK(memcmp(out.left, left, sizeof left) == 0);
-    CHECK(memcmp(out.bottom, bottom, sizeof bottom) == 0);
-    CHECK(memcmp(out.right, right, sizeof right) == 0);
-    CHECK(memcmp(out.top, top, sizeof top) == 0);
-    CHECK(all_untouched(out.labels + 5, sizeof out.labels - 5));
-    CHECK(all_untouched(out.left + 5, sizeof out.left - sizeof left));
-    CHECK(all_untouched(out.top + 5, sizeof out.top - sizeof top));
-    CHECK(record_in(record, 3, 4, &out) == -NENTURXO_SLICE_SHORT);
+    /* a room is five numbers with nothing between them */
+    CHECK(sizeof(nenturxo_room) == 10);
+    five_are_drawn(5, 5);
+    five_are_drawn(6, 5);
+    five_are_drawn(5, 6);
+    five_are_drawn(COUNT(out.labels), COUNT(out.rooms));
+    CHECK(record_in(record, 3, 4, 5, &out) == -NENTURXO_SLICE_SHORT);
     CHECK(all_untouched(&out, sizeof out));
+    CHECK(record_in(record, 3, 5, 4, &out) == -NENTURXO_SLICE_SHORT);
+    CHECK(all_untouched(&out, sizeof out));
+    test_round_trips();
 
     refuses_record(record, 0, NENTURXO_NO_KIND);
     refuses_record(no_kind, 1, NENTURXO_NO_KIND);

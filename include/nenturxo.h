@@ -57,7 +57,8 @@ enum nenturxo_refusal {
     NENTURXO_POSITION_OUTSIDE = 16,/* asked position outside 1 to n */
     NENTURXO_POSITIONS_EQUAL = 17, /* the two asked positions equal */
     NENTURXO_TEXT_FORM = 18,       /* text breaks the form or is longer than 4,096 bytes */
-    NENTURXO_NOT_SLICING = 19      /* the plan is not slicing */
+    NENTURXO_NOT_SLICING = 19,     /* the plan is not slicing */
+    NENTURXO_NAME_TWICE = 20       /* one nonzero name on two rooms */
 };
 
 /* On which side of another room a room stands: the two low bits of what
@@ -85,12 +86,14 @@ enum nenturxo_condition {
     NENTURXO_SECOND_CONDITION = 2
 };
 
-/* A room. y grows upward. */
+/* A room: its four corners, where y grows upward, and its name, 0 if it is
+ * unnamed. */
 typedef struct nenturxo_room {
     uint16_t left;
     uint16_t bottom;
     uint16_t right;
     uint16_t top;
+    uint16_t name;
 } nenturxo_room;
 
 /* Rooms in: a floorplan as a list of rooms becomes its record.
@@ -99,12 +102,19 @@ typedef struct nenturxo_room {
  * record     gets the record: 97 bytes are always enough
  * labels     gets the label of each room, in list order
  * positions  gets the position of each room, in list order
+ * names      gets the name of the room at each position, from position 1: not
+ *            in list order, but as nenturxo_record_in gives labels and rooms
  *
- * Gives the record's length. Refusals, in this order: 1, 2, 3, 4, 5, 15. */
+ * Any number of rooms may be unnamed, but any other name may be on one room
+ * only. The record holds no names: lists that differ in names alone get the
+ * same record, labels and positions.
+ *
+ * Gives the record's length. Refusals, in this order: 1, 2, 3, 4, 5, 20, 15. */
 int32_t nenturxo_rooms_in(const nenturxo_room *rooms, size_t n,
                           uint8_t *record, size_t record_capacity,
                           uint8_t *labels, size_t labels_capacity,
-                          uint8_t *positions, size_t positions_capacity);
+                          uint8_t *positions, size_t positions_capacity,
+                          uint16_t *names, size_t names_capacity);
 
 /* Labels in: the labels of a floorplan by position become its record.
  *
@@ -120,17 +130,16 @@ int32_t nenturxo_labels_in(const uint8_t *labels, size_t n,
  *
  * record     the record's bytes, all of them and no more
  * labels     gets the label of the room at each position, from position 1
- * left, bottom, right, top
- *            get where the four edges of that room are
+ * rooms      gets that room, with name 0
+ *
+ * The rooms can be handed to nenturxo_rooms_in as they are, which gives the
+ * record back.
  *
  * Gives the number of rooms, n: slices of 255 are always enough. Refusals, in
  * this order: 9, 10, 11, 14, 12, 13, 15. */
 int32_t nenturxo_record_in(const uint8_t *record, size_t length,
                            uint8_t *labels, size_t labels_capacity,
-                           uint16_t *left, size_t left_capacity,
-                           uint16_t *bottom, size_t bottom_capacity,
-                           uint16_t *right, size_t right_capacity,
-                           uint16_t *top, size_t top_capacity);
+                           nenturxo_room *rooms, size_t rooms_capacity);
 
 /* The question: how the room at position `first` of a record stands to the
  * one at position `second`, and whether the two touch. The answer is the same

@@ -4,9 +4,9 @@ use mathlib.Core.List.{List, _++_}
 use mathlib.Core.Path.{_≡_, sym, ap, _∙_}
 use Prim.Native.Nat.{ℕ, zero, suc, _≤_, _<_}
 use native.Mathlib.Omega.{arith}
-use lib.ListN.{length, getD, drop}
+use lib.ListN.{length, drop}
 use Rattle.finite.specs.Table.{table, table-same}
-use Rattle.finite.specs.Fill.{filled, Filling, filling-end}
+use Rattle.finite.specs.Fill.{Filling, filling-end}
 use Rattle.record.specs.Labels.{labelAt}
 use Rattle.record.specs.Triple.{Triple}
 use Rattle.record.specs.Walk.{Accepted}
@@ -18,11 +18,12 @@ use Rattle.record.specs.Read.{kindOf, labelsOf}
 use Rattle.record.specs.Checked.{Readable}
 use Rattle.record.specs.Demand2Read.{readable-accepted}
 use Rattle.steps.specs.Passes.{Starts}
-use Rattle.backward.specs.Written.{endAt}
+use Rattle.backward.specs.Written.{endAt, Written}
 use Rattle.reading.specs.Answer.{triplesOf}
-use Rattle.drawing.specs.Drawing.{leftAt, bottomAt, rightAt, topAt}
-use Rattle.drawing.specs.Corners.{leftsOf, bottomsOf, rightsOf, topsOf}
+use Rattle.drawing.specs.Drawing.{leftAt, bottomAt, rightAt, topAt, roomAt, drawingOf}
+use Rattle.drawing.specs.Corners.{roomIn}
 use Rattle.drawing.specs.Walked.{walked-left, walked-bottom, walked-right, walked-top}
+use Rattle.answers.specs.Corners.{corners, roomsFrom}
 
 -- ---- one position
 module _ (t : ℕ → Triple) where
@@ -83,27 +84,28 @@ module _ {bytes : List ℕ} {n : ℕ} (kind : n ≡ kindOf bytes) (readable : Re
   pub top-at : (i : ℕ) → i < n → endAt t n down i ≡ topAt f n (suc i)
   top-at i h = top-is t n accepted i h ∙ (λ j. topAt (labelAt (list j)) n (suc i))
 
-  -- of all positions, from the front of a slice
-  module _ (before : List ℕ) where
-    front : (corner : (n i : ℕ) → ℕ) (x : ℕ → ℕ) → ((i : ℕ) → i < n → x i ≡ corner n i)
-        → filled x n before ≡ table (corner (length (labelsOf bytes))) (length (labelsOf bytes)) ++ drop n before
-    front corner x h = ap (λ (part : List ℕ). part ++ drop n before) (table-same x (corner n) n h ∙ (λ j. table (corner (size j)) (size j)))
+  -- the room at a position that the walk back has passed
+  module _ {earliest : ℕ} {labels₀ right₀ top₀ labels right top left bottom : List ℕ}
+      (w : Written t n earliest labels₀ right₀ top₀ labels right top) (lefts : Starts down t n left) (bottoms : Starts up t n bottom) where
+    pub room-is : (i : ℕ) → earliest ≤ i → i < n → roomIn left bottom right top (suc i) ≡ roomAt f n (suc i)
+    room-is i past h = λ j. record {
+      left = (lefts .at i h ∙ left-at i h) j;
+      bottom = (bottoms .at i h ∙ bottom-at i h) j;
+      right = (w .rights-are .done i past h ∙ right-at i h) j;
+      top = (w .tops-are .done i past h ∙ top-at i h) j;
+      name = 0;
+    }
 
-    pub lefts-front : (starts : List ℕ) → Starts down t n starts
-        → filled (λ i. getD starts i 0) n before ≡ leftsOf (labelsOf bytes) ++ drop n before
-    lefts-front starts h = front (λ n i. leftAt f (suc i)) (λ i. getD starts i 0) (λ i l. h .at i l ∙ left-at i l)
+  -- all labels, from the front of a slice
+  pub labels-front : (before : List ℕ) {now : List ℕ} → n ≤ length before → Filling (λ i. labelOf t n (suc i)) 0 n before now
+      → now ≡ labelsOf bytes ++ drop n before
+  unfolding decode
+  labels-front before long k = filling-end (λ i. labelOf t n (suc i)) n k long ∙ ap (λ (part : List ℕ). part ++ drop n before) list
 
-    pub bottoms-front : (starts : List ℕ) → Starts up t n starts
-        → filled (λ i. getD starts i 0) n before ≡ bottomsOf (labelsOf bytes) ++ drop n before
-    bottoms-front starts h = front (λ n i. bottomAt f (suc i)) (λ i. getD starts i 0) (λ i l. h .at i l ∙ bottom-at i l)
-
-    module _ {now : List ℕ} (long : n ≤ length before) where
-      pub labels-front : Filling (λ i. labelOf t n (suc i)) 0 n before now → now ≡ labelsOf bytes ++ drop n before
-      unfolding decode
-      labels-front k = filling-end (λ i. labelOf t n (suc i)) n k long ∙ ap (λ (part : List ℕ). part ++ drop n before) list
-
-      pub rights-front : Filling (endAt t n up) 0 n before now → now ≡ rightsOf (labelsOf bytes) ++ drop n before
-      rights-front k = filling-end (endAt t n up) n k long ∙ front (λ n i. rightAt f n (suc i)) (endAt t n up) right-at
-
-      pub tops-front : Filling (endAt t n down) 0 n before now → now ≡ topsOf (labelsOf bytes) ++ drop n before
-      tops-front k = filling-end (endAt t n down) n k long ∙ front (λ n i. topAt f n (suc i)) (endAt t n down) top-at
+  -- all rooms: the arrays hold the drawing
+  pub drawing-held : {labels₀ right₀ top₀ labels right top left bottom : List ℕ} → Written t n 0 labels₀ right₀ top₀ labels right top
+      → Starts down t n left → Starts up t n bottom → roomsFrom (corners left bottom right top) n ≡ drawingOf (labelsOf bytes)
+  unfolding drawingOf
+  drawing-held w lefts bottoms =
+      table-same _ (λ i. roomAt f n (suc i)) n (λ i h. room-is w lefts bottoms i (omega arith) h)
+      ∙ (λ j. table (λ i. roomAt f (size j) (suc i)) (size j))

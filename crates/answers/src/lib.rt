@@ -1,9 +1,10 @@
-// Record in: a record gives its labels and its rooms.
+// Reading a record for Record in: its labels, and the corners of its rooms.
 ghost use mathlib.Core.Path.{_≡_};
-ghost use Prim.Native.Nat.{_≤_, min};
-ghost use lib.ListN.{length, getD};
-ghost use Rattle.finite.specs.Fill.{filled};
-ghost use Rattle.answers.specs.Answer.{slices, RecordIn, Few};
+ghost use Prim.Native.Nat.{suc, _<_, min};
+ghost use lib.ListN.{length};
+ghost use Rattle.drawing.specs.Corners.{roomIn};
+ghost use Rattle.answers.specs.Corners.{corners, CornersIn};
+use drawing::Room;
 use reading::Reading;
 use record::Refusal;
 
@@ -14,21 +15,29 @@ pub enum RecordAnswer {
 }
 
 // A byte as a corner.
-pub fn corner(byte: u8) -> u16
+fn corner(byte: u8) -> u16
     ensures { λ r. ⌜ r ≡ byte ⌝ }
 {
     byte as u16
 }
 
-// Writes the first `n` numbers from the front of a slice, which has the room, and leaves the rest of it.
-fn put_front(numbers: &[u8; 255], n: usize, slice: &mut [u16])
-    requires { ⌜ (n ≤ 255) × (n ≤ length (now slice)) ⌝ }
-    ensures { λ _. ⌜ now (slice .exit) ≡ filled (λ i. getD (now (numbers .entry)) i 0) n (now (slice .entry)) ⌝ }
+// The room with index i, of which the corners stand in arrays by position. It is unnamed.
+pub fn room_from<'a>(
+    left: &'a [u8; 255],
+    bottom: &'a [u8; 255],
+    right: &'a [u16; 255],
+    top: &'a [u16; 255],
+    i: usize,
+) -> Room
+    requires { ⌜ i < 255 ⌝ }
+    ensures { λ r. ⌜ r ≡ roomIn (now (left .entry)) (now (bottom .entry)) (now (right .entry)) (now (top .entry)) (suc i) ⌝ }
 {
-    let mut i = 0;
-    while i < n {
-        slice[i] = corner(numbers[i]);
-        i += 1;
+    Room {
+        left: corner(left[i]),
+        bottom: corner(bottom[i]),
+        right: right[i],
+        top: top[i],
+        name: 0,
     }
 }
 
@@ -42,34 +51,28 @@ fn smaller(a: usize, b: usize) -> usize
     b
 }
 
-// Record in: the labels and the corners of the rooms by position, from the front of their slices; or the refusal, and the slices as
-// they were.
-pub fn record_in(
+// Reads a record where there are `places` for its rooms: the labels by position, from the front of their slice, and the corners of the
+// rooms into arrays; or the refusal, and the labels' slice as it was. A record has at most 255 rooms, so of the places no more count.
+pub fn read_corners(
     record: &[u8],
     labels: &mut [u8],
-    left: &mut [u16],
-    bottom: &mut [u16],
-    right: &mut [u16],
-    top: &mut [u16],
+    places: usize,
+    left: &mut [u8; 255],
+    bottom: &mut [u8; 255],
+    right: &mut [u16; 255],
+    top: &mut [u16; 255],
 ) -> RecordAnswer
-    ensures { λ r. ⌜ RecordIn (now («record» .entry))
-        (slices (now (labels .entry)) (now (left .entry)) (now (bottom .entry)) (now (right .entry)) (now (top .entry)))
-        r (slices (now (labels .exit)) (now (left .exit)) (now (bottom .exit)) (now (right .exit)) (now (top .exit))) ⌝ }
-    ensures few { λ r. ⌜ Few r ⌝ }
+    requires { ⌜ (length (now left) ≡ 255) × (length (now bottom) ≡ 255) × (length (now right) ≡ 255) × (length (now top) ≡ 255) ⌝ }
+    ensures { λ r. ⌜ CornersIn (now («record» .entry)) (now (labels .entry)) places r (now (labels .exit))
+        (corners (now (left .exit)) (now (bottom .exit)) (now (right .exit)) (now (top .exit))) ⌝ }
 {
-    let mut lefts = [0u8; 255];
-    let mut bottoms = [0u8; 255];
-    let starts = smaller(left.len(), bottom.len());
-    let ends = smaller(right.len(), top.len());
-    let fit = smaller(labels.len(), smaller(starts, ends));
-    match reading::read(record, 0, fit, &mut lefts, &mut bottoms, labels, right, top) {
+    let fit = smaller(labels.len(), smaller(places, 255));
+    match reading::read(record, 0, fit, left, bottom, labels, right, top) {
         Reading::Refused(refusal) => RecordAnswer::Refused(refusal),
         Reading::Read(n) => {
             if fit < n {
                 return RecordAnswer::Refused(Refusal::ShortOutput);
             }
-            put_front(&lefts, n, left);
-            put_front(&bottoms, n, bottom);
             RecordAnswer::Read(n)
         }
     }

@@ -91,6 +91,7 @@ module _ (lefts bottoms rights tops : List ℕ) where
     bottom = (ap (least _) (lengths .bottoms-length) ∙ least-same (λ i. getD bottoms i 0) (λ i. roomIn rooms i .bottom) some (side (λ room. room .bottom))) j;
     right = (ap (greatest _) (lengths .rights-length) ∙ greatest-same (λ i. getD rights i 0) (λ i. roomIn rooms i .right) (side (λ room. room .right))) j;
     top = (ap (greatest _) (lengths .tops-length) ∙ greatest-same (λ i. getD tops i 0) (λ i. roomIn rooms i .top) (side (λ room. room .top))) j;
+    name = 0;
   })
     where
       side : (corner : Room → ℕ) (i : ℕ) → i < n → corner (corners i) ≡ corner (roomIn rooms i)

@@ -1,68 +1,10 @@
--- A loop that looks at the numbers below n in turn: what one more number does to whether some number has been found, and to a least, a
--- greatest or a sum.
-use mathlib.Core.Path.{_≡_, refl, subst}
-use mathlib.Core.Logic.{inl, inr}
-use Prim.Native.Nat.{ℕ, _+_, _*_, _≤_, zero-le}
+-- A loop that adds up numbers: what one more does to the sum.
+use mathlib.Core.Path.{_≡_}
+use Prim.Native.Nat.{ℕ, _+_}
 use native.Mathlib.Numerals.{add-one}
-use native.Mathlib.Omega.{arith}
-use lib.Bits.{bitOr}
-use lib.Dec.{eqb}
-use Rattle.finite.specs.Decide.{Tells, eq-or-ne, tells-equal, tells-iff}
-use Rattle.finite.specs.Search.{Some}
 use Rattle.finite.specs.Sum.{sum}
-use Rattle.checks.specs.Marks.{Marks}
 use Rattle.finite.specs.SumBelow.{sum-next}
 
--- ---- bits that mark statements
-pub marks-le : {A : Type 0} {a : ℕ} → Marks a A → a ≤ 1
-marks-le (inl (e, h)) = omega arith
-marks-le (inr (e, h)) = omega arith
-
--- a product marks that both hold
-pub marks-both : {A B : Type 0} {a b : ℕ} → Marks a A → Marks b B → Marks (a * b) (A × B)
-marks-both (inl (e, h)) (inl (f, g)) = inl (rw (e, f), (h, g))
-marks-both (inl (e, h)) (inr (f, g)) = inr (rw (e, f), λ (x, y). g y)
-marks-both {b = b} (inr (e, h)) m = inr (rw e (omega arith), λ (x, y). h x)
-
--- a bit marks what holds just where the other does
-pub marks-same : {A B : Type 0} {a : ℕ} → Marks a A → (A → B) → (B → A) → Marks a B
-marks-same (inl (e, h)) to from = inl (e, to h)
-marks-same (inr (e, h)) to from = inr (e, λ b. h (from b))
-
-module _ (P : ℕ → Type 0) where
-  -- before the first turn nothing has been looked at
-  pub none-yet : ¬ Some P 0 0
-  none-yet (i, l, h, p) = omega arith
-
-  -- one more, which has it not
-  pub none-here : (n : ℕ) → ¬ Some P 0 n → ¬ P n → ¬ Some P 0 (n + 1)
-  none-here n none not (i, l, h, p) = elim (eq-or-ne i n) [ inl e ↦ not (subst P e p) | inr ne ↦ none (i, l, omega arith, p) ]
-
-  -- all have been looked at
-  pub none-at-all : (n i : ℕ) → n ≤ i → ¬ Some P 0 i → ¬ Some P 0 n
-  none-at-all n i past none (j, l, h, p) = none (j, l, omega arith, p)
-
-  -- ---- the same of a bit that marks whether one has been found
-  pub marks-none : Marks 0 (Some P 0 0)
-  marks-none = inr (refl, none-yet)
-
-  pub marks-more : (n found here : ℕ) → Marks found (Some P 0 n) → Marks here (P n) → Marks (bitOr found here) (Some P 0 (n + 1))
-  marks-more n found here (inl (e, (i, l, h, p))) (inl (g, q)) = inl (rw (e, g), (i, l, omega arith, p))
-  marks-more n found here (inl (e, (i, l, h, p))) (inr (g, q)) = inl (rw (e, g), (i, l, omega arith, p))
-  marks-more n found here (inr (e, none)) (inl (g, q)) = inl (rw (e, g), (n, zero-le, omega arith, q))
-  marks-more n found here (inr (e, none)) (inr (g, q)) = inr (rw (e, g), none-here n none q)
-
-  pub marks-tell : (n i found : ℕ) → i ≡ n → Marks found (Some P 0 i) → Tells (eqb found 1) (Some P 0 n)
-  marks-tell n i found e marks = tells-iff (found ≡ 1) (Some P 0 n) (eqb found 1) (there marks) (back marks) (tells-equal found 1)
-    where
-      there : Marks found (Some P 0 i) → found ≡ 1 → Some P 0 n
-      there (inl (one, s)) set = rw e at s
-      there (inr (none, s)) set = absurd (omega arith)
-
-      back : Marks found (Some P 0 i) → Some P 0 n → found ≡ 1
-      back (inl (one, s)) some = one
-      back (inr (none, s)) some = absurd (s (rw e some))
-
--- ---- one more number under a sum
+-- one more number under a sum
 pub sum-more : (f : ℕ → ℕ) (n : ℕ) → sum f 0 (n + 1) ≡ sum f 0 n + f n
 sum-more f n = rw (add-one n) (sum-next f n)

@@ -1,6 +1,5 @@
 -- What the functions speak of
 pub mod CornerLists
-pub mod Marks
 pub mod Area
 pub mod Verdict
 -- What they rest on

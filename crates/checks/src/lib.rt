@@ -6,7 +6,7 @@ ghost use Rattle.finite.specs.Decide.{Tells};
 ghost use Rattle.rooms.specs.Causes.{RoomSize, ShareSquare, Overlap, Uncovered};
 ghost use Rattle.rooms.specs.Corners.{cornersAt, OneLength};
 ghost use Rattle.checks.specs.CornerLists.{Flat, SharesEarlier, areasIn};
-ghost use Rattle.checks.specs.Marks.{Marks};
+ghost use Rattle.finite.specs.Marks.{Marks};
 ghost use Rattle.checks.specs.Area.{areaOf};
 ghost use Rattle.checks.specs.Filling.{Fills};
 ghost use Rattle.checks.specs.Verdict.{VerdictOf, PairedWhere};
@@ -34,6 +34,7 @@ fn room_at(left: &[u16], bottom: &[u16], right: &[u16], top: &[u16], i: usize) -
         bottom: bottom[i],
         right: right[i],
         top: top[i],
+        name: 0,
     }
 }
 

@@ -19,7 +19,7 @@ module _ (labels : List ℕ) where
   n = length labels
 
   pub drawing-outline : 1 ≤ length labels
-      → outline (drawingOf labels) ≡ record { left = 0; bottom = 0; right = length labels; top = length labels }
+      → outline (drawingOf labels) ≡ record { left = 0; bottom = 0; right = length labels; top = length labels; name = 0 }
   drawing-outline some =
       let size = length-drawing labels in
       let first : 0 < length rooms = omega arith in
@@ -33,10 +33,10 @@ module _ (labels : List ℕ) where
       let bottom : outline rooms .bottom ≡ 0 = omega (arith, lowest .bottom .past, w) in
       let right : outline rooms .right ≡ n = omega (arith, highest .right .past, o, v) in
       let top : outline rooms .top ≡ n = omega (arith, highest .top .past, o, v) in
-      (λ i. record { left = left i; bottom = bottom i; right = right i; top = top i })
+      (λ i. record { left = left i; bottom = bottom i; right = right i; top = top i; name = 0 })
     where
       square : Room
-      square = record { left = 0; bottom = 0; right = n; top = n }
+      square = record { left = 0; bottom = 0; right = n; top = n; name = 0 }
 
       within : (a : ℕ) → a < length rooms → Within square (roomIn rooms a)
       within a h = let d = place-drawn labels a h in omega (arith, d .right .within, d .top .within)

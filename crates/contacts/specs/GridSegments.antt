@@ -73,7 +73,7 @@ module _ (labels : List ℕ) (c : ℕ) (h : suc c < length (drawingOf labels)) w
   n = length labels
 
   seen-drawn : (d : Direction) (a : ℕ) → a < seen rooms d .count → DrawnFor f n (wayOf d) (suc a) (roomOf (seen rooms d) a)
-  seen-drawn upright a l = place-drawn labels a l
+  seen-drawn upright a l = let d = place-drawn labels a l in record { left = d .left; bottom = d .bottom; right = d .right; top = d .top }
   seen-drawn flat a l = let d = place-drawn labels a l in record { left = d .bottom; bottom = d .left; right = d .top; top = d .right }
 
   -- the unit edges of the direction drawn on the line
@@ -134,7 +134,7 @@ module _ (labels : List ℕ) (c : ℕ) (h : suc c < length (drawingOf labels)) w
 -- ---- the drawing of a list of the labels 1 to n, each once
 module _ (labels : List ℕ) (once : EachOnce (labelAt labels) (length labels)) (some : 1 ≤ length labels) where
   abbrev square : Room
-  square = record { left = 0; bottom = 0; right = length labels; top = length labels }
+  square = record { left = 0; bottom = 0; right = length labels; top = length labels; name = 0 }
 
   k : Floorplan (planOf (drawingOf labels))
   k = drawing-floorplan labels once some

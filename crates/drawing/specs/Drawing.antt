@@ -36,9 +36,9 @@ rightAt f n i = firstLater (λ j. f i < f j) (λ j. decLt (f i) (f j)) i n
 abbrev pub topAt : (ℕ → ℕ) → (n i : ℕ) → ℕ
 topAt f n i = firstLater (λ j. f j < f i) (λ j. decLt (f j) (f i)) i n
 
--- "the room at position i"
+-- "the room at position i"; "a drawing made from a record has name 0 in all rooms" (M-106)
 abbrev pub roomAt : (ℕ → ℕ) → (n i : ℕ) → Room
-roomAt f n i = record { left = leftAt f i; bottom = bottomAt f i; right = rightAt f n i; top = topAt f n i }
+roomAt f n i = record { left = leftAt f i; bottom = bottomAt f i; right = rightAt f n i; top = topAt f n i; name = 0 }
 
 -- the drawing of a label list: its rooms by position
 unfoldable pub drawingOf : List ℕ → List Room

@@ -12,12 +12,16 @@ use Rattle.drawing.specs.declared.Room.{Room}
 use Rattle.drawing.specs.Drawing.{lastBefore, firstLater, roomAt}
 use Rattle.drawing.specs.Nearest.{Nearest, reach→clear, clear→reach, last-nearest, first-nearest}
 
--- the room covers the unit square (x, y)
-pub record Covers (room : Room) (x y : ℕ) : Type 0 where
-  pub left : room .left ≤ x
-  pub right : x < room .right
-  pub bottom : room .bottom ≤ y
-  pub top : y < room .top
+-- a box covers the unit square (x, y)
+pub record BoxCovers (west south east north x y : ℕ) : Type 0 where
+  pub left : west ≤ x
+  pub right : x < east
+  pub bottom : south ≤ y
+  pub top : y < north
+
+-- a room covers it
+abbrev pub Covers : Room → (x y : ℕ) → Type 0
+Covers room x y = BoxCovers (room .left) (room .bottom) (room .right) (room .top) x y
 
 -- ---- columns and rows alike
 -- an order of the positions by their labels: for columns, R a b says that the label at a is smaller than the one at b; for rows,

@@ -14,9 +14,9 @@ use Rattle.drawing.specs.Side.{sideOf}
 abbrev worked : List ℕ
 worked = 4 ∷ 1 ∷ 3 ∷ 5 ∷ 2 ∷ []
 
--- left, bottom, right, top
+-- left, bottom, right, top, unnamed
 abbrev room : ℕ → ℕ → ℕ → ℕ → Room
-room left bottom right top = record { left = left; bottom = bottom; right = right; top = top }
+room left bottom right top = record { left = left; bottom = bottom; right = right; top = top; name = 0 }
 
 worked-rooms : drawingOf worked ≡ room 0 0 3 1 ∷ room 0 1 2 5 ∷ room 2 1 3 4 ∷ room 3 0 5 4 ∷ room 2 4 5 5 ∷ []
 unfolding drawingOf

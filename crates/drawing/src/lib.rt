@@ -11,13 +11,15 @@ ghost use Rattle.drawing.specs.Within.{Within};
 use record::Position;
 
 // "A room is four unsigned 16-bit numbers: left, bottom, right, top. Right is greater
-// than left and top greater than bottom; y grows upward."
+// than left and top greater than bottom; y grows upward." "A room now carries a 16-bit
+// name beside its four corners. Name 0 means unnamed and may occur often." (M-106)
 #[repr(C)]
 pub struct Room {
     pub left: u16,
     pub bottom: u16,
     pub right: u16,
     pub top: u16,
+    pub name: u16,
 }
 
 // "The relation (left, right, above, below) of the first to the second": the first room

@@ -1,5 +1,5 @@
--- Rooms copied into one array, corner by corner: of the room at place i, the left stands at i, the bottom at 255 + i, the right at 510 +
--- i and the top at 765 + i.
+-- Rooms copied into one array, number by number: of the room at place i, the left stands at i, the bottom at 255 + i, the right at 510 + i,
+-- the top at 765 + i and the name at 1020 + i.
 use mathlib.Core.Bool.{cond}
 use mathlib.Core.List.{List}
 use Prim.Native.Nat.{ℕ, _+_}
@@ -10,20 +10,23 @@ use Rattle.drawing.specs.declared.Room.{Room}
 
 -- one room more, at place i
 abbrev pub stored : List ℕ → ℕ → Room → List ℕ
-stored corners i room = set (set (set (set corners i (room .left)) (255 + i) (room .bottom)) (510 + i) (room .right)) (765 + i) (room .top)
+stored numbers i room =
+    set (set (set (set (set numbers i (room .left)) (255 + i) (room .bottom)) (510 + i) (room .right)) (765 + i) (room .top))
+    (1020 + i) (room .name)
 
 -- where there is such a place
 abbrev pub put : List ℕ → ℕ → Room → List ℕ
-put corners i room = cond (ltb i 255) (stored corners i room) corners
+put numbers i room = cond (ltb i 255) (stored numbers i room) numbers
 
 -- the room at place i, and the first n rooms
 abbrev pub copiedAt : List ℕ → ℕ → Room
-copiedAt corners i = record {
-  left = getD corners i 0;
-  bottom = getD corners (255 + i) 0;
-  right = getD corners (510 + i) 0;
-  top = getD corners (765 + i) 0;
+copiedAt numbers i = record {
+  left = getD numbers i 0;
+  bottom = getD numbers (255 + i) 0;
+  right = getD numbers (510 + i) 0;
+  top = getD numbers (765 + i) 0;
+  name = getD numbers (1020 + i) 0;
 }
 
 abbrev pub copiedRooms : List ℕ → ℕ → List Room
-copiedRooms corners n = table (copiedAt corners) n
+copiedRooms numbers n = table (copiedAt numbers) n

@@ -1,17 +1,41 @@
 -- A list whose first n places are filled with f 0 to f (n - 1), the rest as it was; and a loop that fills a list, one store a turn,
 -- from the front or from the back.
-use mathlib.Core.Path.{_≡_, refl, sym, ap, _∙_}
+use mathlib.Core.Path.{_≡_, refl, sym, ap, subst, _∙_}
 use mathlib.Core.Logic.{_⊎_, inl, inr}
 use mathlib.Core.List.{List, [], _∷_, _++_}
 use Prim.Native.Nat.{ℕ, zero, suc, _+_, _≤_, _<_}
+use native.Mathlib.Nat.{not-suc-le-zero}
 use native.Mathlib.Omega.{arith}
 use lib.ListN.{length, getD, set, drop, length-set}
 use lib.Seq.{getD-set-same, getD-set-other}
 use Rattle.finite.specs.Decide.{eq-or-ne}
 use Rattle.finite.specs.Table.{table}
 
-abbrev pub filled : (ℕ → ℕ) → (n : ℕ) → List ℕ → List ℕ
+abbrev pub filled : {A : Type 0} → (ℕ → A) → (n : ℕ) → List A → List A
 filled f n before = table f n ++ drop n before
+
+-- one store more, and the length
+module _ {A : Type 0} where
+  pub filled-none : (f : ℕ → A) (before : List A) → before ≡ filled f 0 before
+  unfolding table
+  filled-none f before = refl
+
+  pub length-filled : (f : ℕ → A) (n : ℕ) (before : List A) → n ≤ length before → length (filled f n before) ≡ length before
+  unfolding table
+  length-filled f zero before h = refl
+  length-filled f (suc n) [] h = absurd (not-suc-le-zero h)
+  length-filled f (suc n) (x ∷ before) h = ap suc (length-filled (λ i. f (suc i)) n before (omega arith))
+
+  store-next : (f : ℕ → A) (n : ℕ) (before : List A) → n < length before → set (filled f n before) n (f n) ≡ filled f (suc n) before
+  unfolding table
+  store-next f n [] h = absurd (not-suc-le-zero h)
+  store-next f zero (x ∷ before) h = refl
+  store-next f (suc n) (x ∷ before) h = ap (λ (rest : List A). f 0 ∷ rest) (store-next (λ i. f (suc i)) n before (omega arith))
+
+  pub filled-store : (f : ℕ → A) (n : ℕ) (before : List A) → n < length before → set (filled f n before) n (f n) ≡ filled f (n + 1) before
+  filled-store f n before h =
+      let e : suc n ≡ n + 1 = omega arith in
+      subst (λ (m : ℕ). set (filled f n before) n (f n) ≡ filled f m before) e (store-next f n before h)
 
 -- the places a to b - 1 are filled, and all others are as they were
 pub record Filling (f : ℕ → ℕ) (a b : ℕ) (before now : List ℕ) : Type 0 where

@@ -2,6 +2,7 @@
 pub mod Decide
 pub mod Search
 pub mod First
+pub mod Marks
 pub mod Sum
 pub mod SumBelow
 pub mod Count

@@ -29,17 +29,17 @@ fn put_line(text: &mut [u8], at: usize, position: Position, label: Label, room: 
 }
 
 // Puts the lines of n positions.
-fn put_lines(
+fn put_lines<'a>(
     text: &mut [u8],
     start: usize,
     n: usize,
     labels: &[u8],
-    left: &[u16],
-    bottom: &[u16],
-    right: &[u16],
-    top: &[u16],
+    left: &'a [u8; 255],
+    bottom: &'a [u8; 255],
+    right: &'a [u16; 255],
+    top: &'a [u16; 255],
 ) -> usize
-    requires { ⌜ Places n (now labels) (now left) (now bottom) (now right) (now top) ⌝ ∗ ⌜ start + 36 * n ≤ length (now text) ⌝ }
+    requires { ⌜ Places n (now labels) ⌝ ∗ ⌜ start + 36 * n ≤ length (now text) ⌝ }
     ensures { λ r. ⌜ Put (now (text .entry)) start
         (viewIn linesOf (now (labels .entry)) (now (left .entry)) (now (bottom .entry)) (now (right .entry)) (now (top .entry)) n)
         (now (text .exit)) r × (r ≤ start + 36 * n) ⌝ }
@@ -48,7 +48,7 @@ fn put_lines(
     let mut i = 0;
     while i < n {
         let label = Label(labels[i]);
-        let room = text::room_at(left, bottom, right, top, i);
+        let room = answers::room_from(left, bottom, right, top, i);
         i += 1;
         at = put_line(text, at, Position(i as u8), label, room);
     }
@@ -56,16 +56,16 @@ fn put_lines(
 }
 
 // Puts the listing of n rooms from the front.
-pub fn put_listing(
+pub fn put_listing<'a>(
     text: &mut [u8],
     n: usize,
     labels: &[u8],
-    left: &[u16],
-    bottom: &[u16],
-    right: &[u16],
-    top: &[u16],
+    left: &'a [u8; 255],
+    bottom: &'a [u8; 255],
+    right: &'a [u16; 255],
+    top: &'a [u16; 255],
 ) -> usize
-    requires { ⌜ Places n (now labels) (now left) (now bottom) (now right) (now top) ⌝ ∗ ⌜ 9200 ≤ length (now text) ⌝ }
+    requires { ⌜ Places n (now labels) ⌝ ∗ ⌜ 9200 ≤ length (now text) ⌝ }
     ensures { λ r. ⌜ Put (now (text .entry)) 0
         (viewIn listing (now (labels .entry)) (now (left .entry)) (now (bottom .entry)) (now (right .entry)) (now (top .entry)) n)
         (now (text .exit)) r × (r ≤ 9200) ⌝ }

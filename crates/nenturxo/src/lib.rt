@@ -5,7 +5,7 @@ ghost use Prim.Native.Nat.{_^_, _≤_, _<_};
 ghost use Rattle.record.specs.Answer.{LabelsIn};
 ghost use Rattle.patterns.specs.Answer.{patternAnswer};
 ghost use Rattle.labeltext.specs.Answer.{Tidied};
-ghost use Rattle.answers.specs.Answer.{slices, RecordIn};
+ghost use Rattle.answers.specs.Answer.{Few, slices, RecordIn};
 ghost use Rattle.slicing.specs.Answer.{TreeIn};
 ghost use Rattle.questions.specs.Answer.{questionAnswer};
 ghost use Rattle.entering.specs.Answer.{slices as roomSlices, RoomsIn};
@@ -45,20 +45,21 @@ fn rooms_code(answer: RoomsAnswer) -> i32
     }
 }
 
-// Rooms in: the record's length, the record, and the label and the position of each room in list order from the front of the slices,
-// or the refusal's number negated, and nothing written.
+// Rooms in: the record's length, the record, the label and the position of each room in list order and the names by position from the
+// front of the slices, or the refusal's number negated, and nothing written.
 #[no_mangle]
 pub extern "C" fn nenturxo_rooms_in(
     rooms: &[Room],
     record: &mut [u8],
     labels: &mut [u8],
     positions: &mut [u8],
+    names: &mut [u16],
 ) -> i32
     ensures { λ r. ⌜ Coded roomsCode r (λ answer. RoomsIn (now (rooms .entry))
-        (roomSlices (now («record» .entry)) (now (labels .entry)) (now (positions .entry))) answer
-        (roomSlices (now («record» .exit)) (now (labels .exit)) (now (positions .exit)))) ⌝ }
+        (roomSlices (now («record» .entry)) (now (labels .entry)) (now (positions .entry)) (now (names .entry))) answer
+        (roomSlices (now («record» .exit)) (now (labels .exit)) (now (positions .exit)) (now (names .exit)))) ⌝ }
 {
-    let answer = plans::rooms_in(rooms, record, labels, positions);
+    let answer = plans::rooms_in(rooms, record, labels, positions, names);
     rooms_code(answer)
 }
 
@@ -109,25 +110,26 @@ pub extern "C" fn nenturxo_tidy(text: &[u8], tidy: &mut [u8]) -> i32
     }
 }
 
-// Record in: the number of rooms, their labels and corners by position from the front of the slices, or the refusal's number
-// negated, and nothing written.
-#[no_mangle]
-pub extern "C" fn nenturxo_record_in(
-    record: &[u8],
-    labels: &mut [u8],
-    left: &mut [u16],
-    bottom: &mut [u16],
-    right: &mut [u16],
-    top: &mut [u16],
-) -> i32
-    ensures { λ r. ⌜ Coded recordCode r (λ answer. RecordIn (now («record» .entry))
-        (slices (now (labels .entry)) (now (left .entry)) (now (bottom .entry)) (now (right .entry)) (now (top .entry)))
-        answer (slices (now (labels .exit)) (now (left .exit)) (now (bottom .exit)) (now (right .exit)) (now (top .exit)))) ⌝ }
+// The number of an answer of Record in, whose rooms are at most 255.
+fn record_code(answer: RecordAnswer) -> i32
+    requires { ⌜ Few answer ⌝ }
+    ensures { λ r. ⌜ r ≡ recordCode answer ⌝ }
 {
-    match answers::record_in(record, labels, left, bottom, right, top) {
+    match answer {
         RecordAnswer::Read(n) => n as i32,
         RecordAnswer::Refused(refusal) => refused(refusal),
     }
+}
+
+// Record in: the number of rooms, their labels and the rooms by position from the front of the slices, or the refusal's number negated,
+// and nothing written.
+#[no_mangle]
+pub extern "C" fn nenturxo_record_in(record: &[u8], labels: &mut [u8], rooms: &mut [Room]) -> i32
+    ensures { λ r. ⌜ Coded recordCode r (λ answer. RecordIn (now («record» .entry))
+        (slices (now (labels .entry)) (now (rooms .entry))) answer (slices (now (labels .exit)) (now (rooms .exit)))) ⌝ }
+{
+    let answer = drawn::record_in(record, labels, rooms);
+    record_code(answer)
 }
 
 // Tree: the length of the cutting tree of a slicing plan, written from the front of `tree`, or the refusal's number negated, and nothing

@@ -9,15 +9,15 @@ use record::Label;
 use record::Position;
 
 // Puts the rooms of a plan.
-fn put_rooms(
+fn put_rooms<'a>(
     text: &mut [u8],
     start: usize,
     n: usize,
     labels: &[u8],
-    left: &[u16],
-    bottom: &[u16],
-    right: &[u16],
-    top: &[u16],
+    left: &'a [u8; 255],
+    bottom: &'a [u8; 255],
+    right: &'a [u16; 255],
+    top: &'a [u16; 255],
 ) -> usize
     requires { ⌜ Plan n (now labels) (now left) (now bottom) (now right) (now top) ⌝ ∗ ⌜ start + 154 * n ≤ length (now text) ⌝ }
     ensures { λ r. ⌜ Put (now (text .entry)) start
@@ -28,7 +28,7 @@ fn put_rooms(
     let mut i = 0;
     while i < n {
         let label = Label(labels[i]);
-        let room = text::room_at(left, bottom, right, top, i);
+        let room = answers::room_from(left, bottom, right, top, i);
         i += 1;
         at = shapes::put_rectangle(text, at, n as u16, room);
         at = shapes::put_names(text, at, n as u16, Position(i as u8), label, room);
@@ -37,15 +37,15 @@ fn put_rooms(
 }
 
 // Puts the inner segments of a plan, one after each position but the last.
-fn put_segments(
+fn put_segments<'a>(
     text: &mut [u8],
     start: usize,
     n: usize,
     labels: &[u8],
-    left: &[u16],
-    bottom: &[u16],
-    right: &[u16],
-    top: &[u16],
+    left: &'a [u8; 255],
+    bottom: &'a [u8; 255],
+    right: &'a [u16; 255],
+    top: &'a [u16; 255],
 ) -> usize
     requires { ⌜ Plan n (now labels) (now left) (now bottom) (now right) (now top) ⌝ ∗ ⌜ (1 ≤ n) × (start + 62 * n ≤ length (now text)) ⌝ }
     ensures { λ r. ⌜ Put (now (text .entry)) start
@@ -56,24 +56,24 @@ fn put_segments(
     let mut k = 0;
     while k + 1 < n {
         let first = Label(labels[k]);
-        let earlier = text::room_at(left, bottom, right, top, k);
+        let earlier = answers::room_from(left, bottom, right, top, k);
         k += 1;
         let second = Label(labels[k]);
-        let later = text::room_at(left, bottom, right, top, k);
+        let later = answers::room_from(left, bottom, right, top, k);
         at = shapes::put_segment(text, at, n as u16, k as u16, first, second, earlier, later);
     }
     at
 }
 
 // Puts the picture of a plan from the front.
-pub fn put_plan(
+pub fn put_plan<'a>(
     text: &mut [u8],
     n: usize,
     labels: &[u8],
-    left: &[u16],
-    bottom: &[u16],
-    right: &[u16],
-    top: &[u16],
+    left: &'a [u8; 255],
+    bottom: &'a [u8; 255],
+    right: &'a [u16; 255],
+    top: &'a [u16; 255],
 ) -> usize
     requires { ⌜ Plan n (now labels) (now left) (now bottom) (now right) (now top) ⌝ ∗ ⌜ (1 ≤ n) × (56000 ≤ length (now text)) ⌝ }
     ensures { λ r. ⌜ Put (now (text .entry)) 0

@@ -21,13 +21,14 @@ fn put_picture(record: &[u8], text: &mut [u8]) -> usize
     ensures { λ r. ⌜ (take r (now (text .exit)) ≡ pictureOf (now («record» .entry))) × Counts r (now (text .exit)) ⌝ }
 {
     let mut labels = [0u8; 255];
-    let mut left = [0u16; 255];
-    let mut bottom = [0u16; 255];
+    let mut left = [0u8; 255];
+    let mut bottom = [0u8; 255];
     let mut right = [0u16; 255];
     let mut top = [0u16; 255];
-    match answers::record_in(
+    match answers::read_corners(
         record,
         &mut labels,
+        255,
         &mut left,
         &mut bottom,
         &mut right,

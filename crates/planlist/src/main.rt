@@ -15,19 +15,20 @@ const INPUT: usize = 98;
 // Places for a header and 255 lines of six numbers, each of at most five digits and one byte more.
 const TEXT: usize = 9200;
 
-// Puts the whole text for a record from the front: the rooms that Record in gives, or why it refuses.
+// Puts the whole text for a record from the front: the rooms that Record in gives, or why it refuses. There are places for any record.
 fn put_text(record: &[u8], text: &mut [u8]) -> usize
     requires { ⌜ 9200 ≤ length (now text) ⌝ }
     ensures { λ r. ⌜ (take r (now (text .exit)) ≡ textOf (now («record» .entry))) × Counts r (now (text .exit)) ⌝ }
 {
     let mut labels = [0u8; 255];
-    let mut left = [0u16; 255];
-    let mut bottom = [0u16; 255];
+    let mut left = [0u8; 255];
+    let mut bottom = [0u8; 255];
     let mut right = [0u16; 255];
     let mut top = [0u16; 255];
-    match answers::record_in(
+    match answers::read_corners(
         record,
         &mut labels,
+        255,
         &mut left,
         &mut bottom,
         &mut right,

@@ -1,2 +1,3 @@
--- Demand 3 of the calls.
+-- Demand 3 of the calls, and the drawing that comes back.
 pub mod Demand3
+pub mod M106

@@ -1,4 +1,4 @@
-// Rooms in, on rooms lent as structs: a thin entry, which copies their corners and chooses the size of the working arrays.
+// Rooms in, on rooms lent as structs: a thin entry, which copies their numbers and chooses the size of the working arrays.
 ghost use mathlib.Core.Path.{_≡_};
 ghost use lib.ListN.{length};
 ghost use Rattle.entering.specs.Answer.{slices, RoomsIn};
@@ -7,33 +7,35 @@ use drawing::Room;
 use entering::RoomsAnswer;
 use record::Refusal;
 
-// Copies a room's corners to its place in each quarter of an array: the lefts stand from 0, the bottoms from 255, the rights from 510 and
-// the tops from 765. At 255 and beyond nothing is done.
-fn put_room(corners: &mut [u16; 1020], at: usize, room: Room)
-    requires { ⌜ length (now corners) ≡ 1020 ⌝ }
-    ensures { λ _. ⌜ now (corners .exit) ≡ put (now (corners .entry)) at room ⌝ }
+// Copies a room's numbers to its place in each fifth of an array: the lefts stand from 0, the bottoms from 255, the rights from 510, the
+// tops from 765 and the names from 1020. At 255 and beyond nothing is done.
+fn put_room(numbers: &mut [u16; 1275], at: usize, room: Room)
+    requires { ⌜ length (now numbers) ≡ 1275 ⌝ }
+    ensures { λ _. ⌜ now (numbers .exit) ≡ put (now (numbers .entry)) at room ⌝ }
 {
     if at < 255 {
-        corners[at] = room.left;
-        corners[255 + at] = room.bottom;
-        corners[510 + at] = room.right;
-        corners[765 + at] = room.top;
+        numbers[at] = room.left;
+        numbers[255 + at] = room.bottom;
+        numbers[510 + at] = room.right;
+        numbers[765 + at] = room.top;
+        numbers[1020 + at] = room.name;
     }
 }
 
 // Rooms in, on so many rooms that were copied, with arrays for as many as there are: short ones are soon cleared. More than 255 are
 // refused: the array does not hold them all.
 fn finish(
-    all: &[u16; 1020],
+    all: &[u16; 1275],
     n: usize,
     record: &mut [u8],
     labels: &mut [u8],
     positions: &mut [u8],
+    names: &mut [u16],
 ) -> RoomsAnswer
-    requires { ⌜ length (now all) ≡ 1020 ⌝ }
+    requires { ⌜ length (now all) ≡ 1275 ⌝ }
     ensures { λ r. ⌜ RoomsIn (copiedRooms (now (all .entry)) n)
-        (slices (now («record» .entry)) (now (labels .entry)) (now (positions .entry))) r
-        (slices (now («record» .exit)) (now (labels .exit)) (now (positions .exit))) ⌝ }
+        (slices (now («record» .entry)) (now (labels .entry)) (now (positions .entry)) (now (names .entry))) r
+        (slices (now («record» .exit)) (now (labels .exit)) (now (positions .exit)) (now (names .exit))) ⌝ }
 {
     if n == 0 {
         return RoomsAnswer::Refused(Refusal::Count);
@@ -56,6 +58,7 @@ fn finish(
             record,
             labels,
             positions,
+            names,
         );
     }
     if n <= 63 {
@@ -73,6 +76,7 @@ fn finish(
             record,
             labels,
             positions,
+            names,
         );
     }
     let mut there = [0u16; 512];
@@ -89,6 +93,7 @@ fn finish(
         record,
         labels,
         positions,
+        names,
     )
 }
 
@@ -99,16 +104,17 @@ pub fn rooms_in(
     record: &mut [u8],
     labels: &mut [u8],
     positions: &mut [u8],
+    names: &mut [u16],
 ) -> RoomsAnswer
     ensures { λ r. ⌜ RoomsIn (now (rooms .entry))
-        (slices (now («record» .entry)) (now (labels .entry)) (now (positions .entry))) r
-        (slices (now («record» .exit)) (now (labels .exit)) (now (positions .exit))) ⌝ }
+        (slices (now («record» .entry)) (now (labels .entry)) (now (positions .entry)) (now (names .entry))) r
+        (slices (now («record» .exit)) (now (labels .exit)) (now (positions .exit)) (now (names .exit))) ⌝ }
 {
-    let mut corners = [0u16; 1020];
+    let mut numbers = [0u16; 1275];
     let mut passed = 0;
     while passed < rooms.len() {
-        put_room(&mut corners, passed, rooms[passed]);
+        put_room(&mut numbers, passed, rooms[passed]);
         passed += 1;
     }
-    finish(&corners, passed, record, labels, positions)
+    finish(&numbers, passed, record, labels, positions, names)
 }

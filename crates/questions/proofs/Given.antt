@@ -17,7 +17,7 @@ use Rattle.drawing.specs.Corners.{roomIn}
 use Rattle.drawing.specs.Drawing.{roomAt}
 use Rattle.drawing.specs.Side.{sideOf}
 use Rattle.drawing.specs.declared.Side.the-variants.{Left, Right, Above, Below}
-use Rattle.answers.specs.Drawn.{label-at, left-at, bottom-at, right-at, top-at}
+use Rattle.answers.specs.Drawn as drawn
 
 -- the side needs the labels of the two positions only
 side-same : (f g : ℕ → ℕ) (i j : ℕ) → f i ≡ g i → f j ≡ g j → sideOf f i j ≡ sideOf g i j
@@ -31,7 +31,7 @@ module _ {bytes : List ℕ} {n earliest : ℕ} (kind : n ≡ kindOf bytes) (read
 
   label-is : (position : ℕ) → 1 ≤ position → earliest ≤ position - 1 → position ≤ n → labelAt labels position ≡ f position
   label-is zero some past most = absurd (omega arith)
-  label-is (suc k) some past most = w .labels-are .done k (omega arith) most ∙ label-at kind readable k most
+  label-is (suc k) some past most = w .labels-are .done k (omega arith) most ∙ drawn.label-at kind readable k most
 
   -- two positions that the walk back has passed
   pub side-is : (first second : ℕ) → 1 ≤ first → earliest ≤ first - 1 → first ≤ n → 1 ≤ second → earliest ≤ second - 1 → second ≤ n
@@ -42,10 +42,4 @@ module _ {bytes : List ℕ} {n earliest : ℕ} (kind : n ≡ kindOf bytes) (read
       → roomIn left bottom right top position ≡ roomAt f (kindOf bytes) position
   room-is lefts bottoms zero some past most = absurd (omega arith)
   room-is lefts bottoms (suc k) some past most =
-      (λ i. record {
-        left = (lefts .at k most ∙ left-at kind readable k most) i;
-        bottom = (bottoms .at k most ∙ bottom-at kind readable k most) i;
-        right = (w .rights-are .done k (omega arith) most ∙ right-at kind readable k most) i;
-        top = (w .tops-are .done k (omega arith) most ∙ top-at kind readable k most) i;
-      })
-      ∙ ap (λ (m : ℕ). roomAt f m (suc k)) kind
+      drawn.room-is kind readable w lefts bottoms k (omega arith) most ∙ ap (λ (m : ℕ). roomAt f m (suc k)) kind

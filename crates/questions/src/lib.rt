@@ -43,23 +43,17 @@ fn earlier(first: u8, second: u8) -> usize
 }
 
 // The room at a position, of which the corners stand in arrays by position.
-fn room_at(
-    left: &[u8; 255],
-    bottom: &[u8; 255],
-    right: &[u16; 255],
-    top: &[u16; 255],
+fn room_at<'a>(
+    left: &'a [u8; 255],
+    bottom: &'a [u8; 255],
+    right: &'a [u16; 255],
+    top: &'a [u16; 255],
     position: Position,
 ) -> Room
     requires { ⌜ 1 ≤ position .0 ⌝ }
     ensures { λ r. ⌜ r ≡ roomIn (now (left .entry)) (now (bottom .entry)) (now (right .entry)) (now (top .entry)) (position .0) ⌝ }
 {
-    let i = drawing::index(position);
-    Room {
-        left: answers::corner(left[i]),
-        bottom: answers::corner(bottom[i]),
-        right: right[i],
-        top: top[i],
-    }
+    answers::room_from(left, bottom, right, top, drawing::index(position))
 }
 
 // The question: positions are handed in as any number. The record is read back to the earlier of them, into 255 places for each

@@ -1,7 +1,7 @@
 -- The sheet's table of refusals: cause and number. "A number that any request adds joins document 01's table."
 use Prim.Native.Nat.{ℕ}
 use Rattle.record.specs.declared.Refusal.{Refusal}
-use Rattle.record.specs.declared.Refusal.the-variants.{Count, RoomSize, Overlap, Uncovered, FourMeet, LabelOutside, LabelTwice, BarredPattern, NoKind, ShortBody, BytesAfter, MissingRun, SeveralRuns, SpareBit, ShortOutput, PositionOutside, SamePosition, TextForm, NotSlicing}
+use Rattle.record.specs.declared.Refusal.the-variants.{Count, RoomSize, Overlap, Uncovered, FourMeet, LabelOutside, LabelTwice, BarredPattern, NoKind, ShortBody, BytesAfter, MissingRun, SeveralRuns, SpareBit, ShortOutput, PositionOutside, SamePosition, TextForm, NotSlicing, NameTwice}
 
 abbrev pub numberOf : Refusal → ℕ
 -- room or label list of 0 or over 255 entries
@@ -42,3 +42,5 @@ numberOf SamePosition = 17
 numberOf TextForm = 18
 -- a plan that is not slicing (M-103)
 numberOf NotSlicing = 19
+-- one nonzero name on two rooms (M-106)
+numberOf NameTwice = 20

@@ -40,6 +40,7 @@ pub enum Refusal {
     SamePosition,
     TextForm,
     NotSlicing,
+    NameTwice,
 }
 
 impl Refusal {
@@ -67,6 +68,7 @@ impl Refusal {
             Refusal::SamePosition => 17,
             Refusal::TextForm => 18,
             Refusal::NotSlicing => 19,
+            Refusal::NameTwice => 20,
         }
     }
 }

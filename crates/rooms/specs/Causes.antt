@@ -1,5 +1,7 @@
--- The causes for which a room list is refused. "Order: rooms 1, 2, 3, 4, 5, 15." Cause 1 is that of label lists too.
+-- The causes for which a room list is refused. "Order: rooms 1, 2, 3, 4, 5, 15." Cause 1 is that of label lists too. "20 for one nonzero
+-- name on two rooms, after 5 and before 15" (M-106).
 use mathlib.Core.Logic.{_⊎_, _≢_}
+use mathlib.Core.Path.{_≡_}
 use mathlib.Core.List.{List}
 use Prim.Native.Nat.{ℕ, _≤_}
 use lib.ListN.{length}
@@ -34,6 +36,11 @@ FourMeet rooms =
     SomeRoom rooms (λ a. SomeRoom rooms (λ b. SomeRoom rooms (λ c. SomeRoom rooms (λ d.
     Different a b c d × MeetAtPoint (roomIn rooms a) (roomIn rooms b) (roomIn rooms c) (roomIn rooms d)))))
 
+-- "one nonzero name on two rooms"
+abbrev pub NameTwice : List Room → Type 0
+NameTwice rooms = SomeRoom rooms (λ i. SomeRoom rooms (λ j.
+    (i ≢ j) × (roomIn rooms i .name ≢ 0) × (roomIn rooms i .name ≡ roomIn rooms j .name)))
+
 -- "A room list is accepted if it has none of the causes that its order names before 15."
 pub record AcceptedRooms (rooms : List Room) : Type 0 where
   pub count : ¬ BadCount (length rooms)
@@ -41,3 +48,4 @@ pub record AcceptedRooms (rooms : List Room) : Type 0 where
   pub overlap : ¬ Overlap rooms
   pub uncovered : ¬ Uncovered rooms
   pub four-meet : ¬ FourMeet rooms
+  pub names : ¬ NameTwice rooms

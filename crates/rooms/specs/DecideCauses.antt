@@ -1,4 +1,4 @@
--- The causes 2 to 5 are decided, and so is whether a room list is accepted.
+-- The causes 2 to 5 and 20 are decided, and so is whether a room list is accepted.
 use mathlib.Core.Path.{_≡_}
 use mathlib.Core.Logic.{_≢_, _⊎_, inl, inr}
 use mathlib.Core.List.{List}
@@ -12,7 +12,7 @@ use Rattle.record.specs.Causes.{dec-count}
 use Rattle.drawing.specs.declared.Room.{Room}
 use Rattle.drawing.specs.Tiling.{Different}
 use Rattle.rooms.specs.Outline.{Covers, roomIn, SomeRoom, Corner, least, greatest, outline}
-use Rattle.rooms.specs.Causes.{RoomSize, ShareSquare, Overlap, Uncovered, MeetAtPoint, FourMeet, AcceptedRooms}
+use Rattle.rooms.specs.Causes.{RoomSize, ShareSquare, Overlap, Uncovered, MeetAtPoint, FourMeet, NameTwice, AcceptedRooms}
 
 unfoldable pub dec-room-size : (rooms : List Room) → Dec (RoomSize rooms)
 unfolding dec-⊎ decLe dec-some
@@ -80,9 +80,17 @@ dec-four-meet rooms =
     dec-× (dec-different a b c d) (dec-meet (roomIn rooms a) (roomIn rooms b) (roomIn rooms c) (roomIn rooms d)))
     0 (length rooms)) 0 (length rooms)) 0 (length rooms)) 0 (length rooms)
 
+unfoldable pub dec-name-twice : (rooms : List Room) → Dec (NameTwice rooms)
+unfolding dec-×₃ dec-¬ dec-some ℕ-discrete
+dec-name-twice rooms =
+    dec-some _ (λ i. dec-some _ (λ j.
+    dec-×₃ (dec-¬ (ℕ-discrete i j)) (dec-¬ (ℕ-discrete (roomIn rooms i .name) 0)) (ℕ-discrete (roomIn rooms i .name) (roomIn rooms j .name)))
+    0 (length rooms)) 0 (length rooms)
+
 unfoldable pub dec-accepted : (rooms : List Room) → Dec (AcceptedRooms rooms)
-unfolding dec-× dec-×₃ dec-¬ dec-iff dec-count dec-room-size dec-overlap dec-uncovered dec-four-meet
+unfolding dec-×₃ dec-¬ dec-iff dec-count dec-room-size dec-overlap dec-uncovered dec-four-meet dec-name-twice dec-×
 dec-accepted rooms = dec-iff
-    (λ h. record { count = h .0 .0; size = h .0 .1; overlap = h .0 .2; uncovered = h .1 .0; four-meet = h .1 .1 })
-    (λ h. ((h .count, h .size, h .overlap), (h .uncovered, h .four-meet)))
-    (dec-× (dec-×₃ (dec-¬ (dec-count (length rooms))) (dec-¬ (dec-room-size rooms)) (dec-¬ (dec-overlap rooms))) (dec-× (dec-¬ (dec-uncovered rooms)) (dec-¬ (dec-four-meet rooms))))
+    (λ h. record { count = h .0 .0; size = h .0 .1; overlap = h .0 .2; uncovered = h .1 .0; four-meet = h .1 .1; names = h .1 .2 })
+    (λ h. ((h .count, h .size, h .overlap), (h .uncovered, h .four-meet, h .names)))
+    (dec-× (dec-×₃ (dec-¬ (dec-count (length rooms))) (dec-¬ (dec-room-size rooms)) (dec-¬ (dec-overlap rooms)))
+    (dec-×₃ (dec-¬ (dec-uncovered rooms)) (dec-¬ (dec-four-meet rooms)) (dec-¬ (dec-name-twice rooms))))

@@ -78,16 +78,22 @@ unfolding recordOfRooms
 label-list-back rooms accepted = record-of→labels-of (recordOfRooms rooms) (record-of-rooms-readable rooms accepted) (labelList rooms)
     (rooms-give-baxter rooms accepted .baxter) refl
 
--- "The reading of any bytes at all is accepted exactly when they are the record of some accepted room list": the grid drawing of
--- its labels is one
+-- the grid drawing of a record's labels is a room list that has this record
+pub drawing-of-record : (bytes : List ℕ) → Bytes bytes → Readable bytes
+    → AcceptedRooms (drawingOf (labelsOf bytes)) × SixteenBits (drawingOf (labelsOf bytes))
+    × (recordOfRooms (drawingOf (labelsOf bytes)) ≡ bytes)
+unfolding recordOfRooms
+drawing-of-record bytes all readable =
+    let reads = demand2-read-only-list bytes all readable in
+    let not-none : kindOf bytes ≢ 0 = λ e. readable .kind (inr e) in
+    let drawn = baxter-gives-drawing (labelsOf bytes) (reads .baxter) (omega (arith, reads .size)) (omega (arith, reads .size, all 0)) in
+    (drawn .accepted, drawn .sixteen-bits, ap recordOf (drawn .has-labels) ∙ reads .back)
+
+-- "The reading of any bytes at all is accepted exactly when they are the record of some accepted room list"
 pub demand3-read-iff-record-of-rooms : (bytes : List ℕ) → Bytes bytes
     → Readable bytes ↔ ((rooms : List Room) × AcceptedRooms rooms × SixteenBits rooms × (recordOfRooms rooms ≡ bytes))
-unfolding recordOfRooms
-demand3-read-iff-record-of-rooms bytes all = (to, λ (rooms, accepted, sixteen-bits, e). subst Readable e (record-of-rooms-readable rooms accepted))
-  where
-    to : Readable bytes → (rooms : List Room) × AcceptedRooms rooms × SixteenBits rooms × (recordOfRooms rooms ≡ bytes)
-    to readable =
-        let reads = demand2-read-only-list bytes all readable in
-        let not-none : kindOf bytes ≢ 0 = λ e. readable .kind (inr e) in
-        let drawn = baxter-gives-drawing (labelsOf bytes) (reads .baxter) (omega (arith, reads .size)) (omega (arith, reads .size, all 0)) in
-        (drawingOf (labelsOf bytes), drawn .accepted, drawn .sixteen-bits, ap recordOf (drawn .has-labels) ∙ reads .back)
+demand3-read-iff-record-of-rooms bytes all = (
+  λ readable. let (accepted, sixteen-bits, e) = drawing-of-record bytes all readable in
+      (drawingOf (labelsOf bytes), accepted, sixteen-bits, e),
+  λ (rooms, accepted, sixteen-bits, e). subst Readable e (record-of-rooms-readable rooms accepted),
+)

@@ -16,7 +16,7 @@ use Rattle.rooms.specs.Causes.{AcceptedRooms}
 use Rattle.rooms.specs.OutlineLaws.{Within, outline-is-smallest}
 use Rattle.rooms.specs.Plan.{Tiles, Floorplan}
 use Rattle.rooms.specs.FourCorners.{Quadrants, four-edges→quadrants}
-use Rattle.rooms.specs.PlanOf.{planOf, size→fits, floorplan→accepted}
+use Rattle.rooms.specs.PlanOf.{planOf, size→fits, floorplan→accepted, unnamed→no-name-twice}
 
 module _ (labels : List ℕ) where
   -- a room for each label
@@ -31,7 +31,11 @@ module _ (labels : List ℕ) where
   pub room-in-drawing : (i : ℕ) → i < length (drawingOf labels)
       → roomIn (drawingOf labels) i ≡ roomAt (labelAt labels) (length labels) (suc i)
   unfolding drawingOf
-  room-in-drawing i h = getD-table (λ i. roomAt (labelAt labels) (length labels) (suc i)) (length labels) i (record { left = 0; bottom = 0; right = 0; top = 0 }) (place→position h)
+  room-in-drawing i h = getD-table (λ i. roomAt (labelAt labels) (length labels) (suc i)) (length labels) i (record { left = 0; bottom = 0; right = 0; top = 0; name = 0 }) (place→position h)
+
+  -- "a drawing made from a record has name 0 in all rooms" (M-106)
+  pub m106-drawing-unnamed : (i : ℕ) → i < length (drawingOf labels) → roomIn (drawingOf labels) i .name ≡ 0
+  m106-drawing-unnamed i h = ap (λ (room : Room). room .name) (room-in-drawing i h)
 
 module _ (labels : List ℕ) (once : EachOnce (labelAt labels) (length labels)) (some : 1 ≤ length labels) where
   abbrev rooms : List Room
@@ -62,7 +66,7 @@ module _ (labels : List ℕ) (once : EachOnce (labelAt labels) (length labels)) 
 
   -- "The outline is 0 to n both ways"
   abbrev square : Room
-  square = record { left = 0; bottom = 0; right = length labels; top = length labels }
+  square = record { left = 0; bottom = 0; right = length labels; top = length labels; name = 0 }
 
   within : (i : ℕ) → i < length rooms → Within square (roomIn rooms i)
   within i h = omega (arith, at-place (λ room. (room .right ≤ length labels) × (room .top ≤ length labels)) i h (tiling .inside (suc i) (omega arith) (place→position labels h)))
@@ -118,6 +122,10 @@ module _ (labels : List ℕ) (once : EachOnce (labelAt labels) (length labels)) 
   module _ (few : length labels ≤ 255) where
     pub drawing-accepted : AcceptedRooms (drawingOf labels)
     drawing-accepted = floorplan→accepted rooms (omega (arith, length-drawing labels)) (omega (arith, length-drawing labels)) drawing-floorplan
+        (unnamed→no-name-twice rooms (m106-drawing-unnamed labels))
 
     pub drawing-fits-16-bits : SixteenBits (drawingOf labels)
-    drawing-fits-16-bits i l h = let w = within i h in let p = positive i h in (omega arith, omega arith, omega arith, omega arith)
+    drawing-fits-16-bits i l h =
+        let w = within i h in
+        let p = positive i h in
+        (omega arith, omega arith, omega arith, omega arith, omega (arith, m106-drawing-unnamed labels i h))

@@ -7,6 +7,7 @@ pub mod Direct
 pub mod LabelList
 pub mod Corners
 pub mod Equivalent
+pub mod SameButNames
 -- Each is decided
 pub mod Pick
 pub mod Chain
@@ -21,6 +22,7 @@ pub mod GridFloorplan
 pub mod GridLabels
 pub mod Stands
 pub mod Demand3
+pub mod M106
 -- What they rest on: a room list as a plan
 pub mod Plan
 pub mod EdgesAtPoint

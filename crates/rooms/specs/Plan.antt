@@ -7,6 +7,7 @@ use Prim.Native.Nat.{ℕ, _-_, _≤_, _<_, min, max}
 use native.Mathlib.Omega.{arith}
 use Rattle.finite.specs.Search.{Some, dec-some}
 use Rattle.drawing.specs.declared.Room.{Room}
+use Rattle.drawing.specs.Squares.{BoxCovers}
 use Rattle.rooms.specs.Outline.{Covers}
 use Rattle.rooms.specs.DecideCauses.{dec-covers}
 use Rattle.rooms.specs.Orders.{Chain, one, step}
@@ -25,7 +26,7 @@ pub record Plan : Type 0 where
   pub north : ℕ
 
 abbrev pub roomOf : Plan → ℕ → Room
-roomOf p i = record { left = p .left i; bottom = p .bottom i; right = p .right i; top = p .top i }
+roomOf p i = record { left = p .left i; bottom = p .bottom i; right = p .right i; top = p .top i; name = 0 }
 
 -- room i covers the unit square (x, y)
 abbrev pub RoomCovers : Plan → (i x y : ℕ) → Type 0
@@ -33,7 +34,7 @@ RoomCovers p i x y = Covers (roomOf p i) x y
 
 -- the unit square (x, y) lies in the outline
 abbrev pub OutlineCovers : Plan → (x y : ℕ) → Type 0
-OutlineCovers p x y = Covers (record { left = p .west; bottom = p .south; right = p .east; top = p .north }) x y
+OutlineCovers p x y = BoxCovers (p .west) (p .south) (p .east) (p .north) x y
 
 -- room i is a rectangle in the outline
 pub record Fits (p : Plan) (i : ℕ) : Type 0 where
@@ -64,10 +65,7 @@ swap p = record {
   north = p .east;
 }
 
-abbrev pub swapRoom : Room → Room
-swapRoom room = record { left = room .bottom; bottom = room .left; right = room .top; top = room .right }
-
-pub swap-covers : {room : Room} {x y : ℕ} → Covers room x y → Covers (swapRoom room) y x
+pub swap-covers : {west south east north x y : ℕ} → BoxCovers west south east north x y → BoxCovers south west north east y x
 swap-covers h = omega arith
 
 pub swap-tiles : {p : Plan} → Tiles p → Tiles (swap p)

@@ -1,4 +1,4 @@
--- A room list as a plan: it is accepted exactly if it has 1 to 255 rooms and its plan is a floorplan.
+-- A room list as a plan: it is accepted exactly if it has 1 to 255 rooms, no nonzero name twice, and its plan is a floorplan.
 use mathlib.Core.Path.{_≡_, ap}
 use mathlib.Core.Logic.{inl, inr}
 use mathlib.Core.List.{List}
@@ -10,7 +10,7 @@ use Rattle.finite.specs.Search.{dec-some}
 use Rattle.drawing.specs.declared.Room.{Room}
 use Rattle.drawing.specs.Tiling.{Different}
 use Rattle.rooms.specs.Outline.{roomIn, outline}
-use Rattle.rooms.specs.Causes.{FourMeet, AcceptedRooms}
+use Rattle.rooms.specs.Causes.{FourMeet, NameTwice, AcceptedRooms}
 use Rattle.rooms.specs.OutlineLaws.{rooms-within-outline}
 use Rattle.rooms.specs.DecideCauses.{dec-covers}
 use Rattle.rooms.specs.Plan.{Plan, Fits, Tiles, Floorplan}
@@ -40,6 +40,10 @@ size→fits rooms i h wide tall = let w = rooms-within-outline rooms i h in reco
   east = w .right;
   north = w .top;
 }
+
+-- "Name 0 means unnamed and may occur often"
+pub unnamed→no-name-twice : (rooms : List Room) → ((i : ℕ) → i < length rooms → roomIn rooms i .name ≡ 0) → ¬ NameTwice rooms
+unnamed→no-name-twice rooms none (i, l, h, (j, m, g, (differ, named, same))) = named (none i h)
 
 module _ (rooms : List Room) where
   pub accepted→floorplan : AcceptedRooms rooms → Floorplan (planOf rooms)
@@ -73,13 +77,14 @@ module _ (rooms : List Room) where
           let different : Different sw se nw ne = (λ e. omega (arith, rights e), λ e. omega (arith, tops e), λ e. omega (arith, rights e), λ e. omega (arith, rights e), λ e. omega (arith, tops e), λ e. omega (arith, rights e)) in
           k .four-meet (sw, lsw, hsw, (se, lse, hse, (nw, lnw, hnw, (ne, lne, hne, (different, (x, y, (inr rsw, inr tsw), (inl lse-x, inr tse), (inr rnw, inl bnw), (inl lne-x, inl bne)))))))
 
-  pub floorplan→accepted : 1 ≤ length rooms → length rooms ≤ 255 → Floorplan (planOf rooms) → AcceptedRooms rooms
-  floorplan→accepted lo hi k = record {
+  pub floorplan→accepted : 1 ≤ length rooms → length rooms ≤ 255 → Floorplan (planOf rooms) → ¬ NameTwice rooms → AcceptedRooms rooms
+  floorplan→accepted lo hi k names = record {
     count = λ c. elim c [ inl e ↦ omega arith | inr e ↦ omega arith ];
     size = λ (i, l, h, c). elim c [ inl e ↦ omega (arith, k .fits i h) | inr e ↦ omega (arith, k .fits i h) ];
     overlap = λ (i, l, hi, (j, m, hj, (ne, (x, y, u, v)))). ne (k .apart i j x y hi hj u v);
     uncovered = λ (x, y, h, none). none (k .covered x y h);
     four-meet = four-meet;
+    names = names;
   }
     where
       four-meet : ¬ FourMeet rooms

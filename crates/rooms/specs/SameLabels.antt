@@ -66,6 +66,27 @@ equivalent-sym {rooms} {others} e = record {
     roomBack : ℕ → ℕ
     roomBack = e .pair-rooms .from
 
+-- and the partners' partners of a third list
+pub equivalent-trans : {rooms others more : List Room} → Equivalent rooms others → Equivalent others more → Equivalent rooms more
+equivalent-trans e f = record {
+  pair-rooms = chained (e .pair-rooms) (f .pair-rooms);
+  pair-segments = chained (e .pair-segments) (f .pair-segments);
+  holds = λ s g i h side.
+      let there = e .holds s g i h side in
+      let further = f .holds (e .pair-segments .to s) (e .pair-segments .to-has s g) (e .pair-rooms .to i) (e .pair-rooms .to-has i h) side in
+      (λ held. further .0 (there .0 held), λ held. there .1 (further .1 held));
+}
+  where
+    chained : {A B C : Type 0} {P : A → Type 0} {Q : B → Type 0} {R : C → Type 0} → Pairing P Q → Pairing Q R → Pairing P R
+    chained p q = record {
+      to = λ x. q .to (p .to x);
+      from = λ z. p .from (q .from z);
+      to-has = λ x h. q .to-has (p .to x) (p .to-has x h);
+      from-has = λ z h. p .from-has (q .from z) (q .from-has z h);
+      from-to = λ x h. ap (p .from) (q .from-to (p .to x) (p .to-has x h)) ∙ p .from-to x h;
+      to-from = λ z h. ap (q .to) (p .to-from (q .from z) (q .from-has z h)) ∙ q .to-from z h;
+    }
+
 module _ (rooms others : List Room) (e : Equivalent rooms others) where
   pub equivalent→keeps-one-segment : (of-a of-b : Side) (a b : ℕ) → OneSegment rooms of-a of-b a b
       → OneSegment others of-a of-b (e .pair-rooms .to a) (e .pair-rooms .to b)
@@ -96,9 +117,12 @@ module _ (rooms others : List Room) (k : Floorplan (planOf rooms)) (ko : Floorpl
   same-size : length rooms ≡ length others
   same-size = omega (arith, keeps→size rooms others k ko there keeps, keeps→size others rooms ko k (equivalent-sym e .pair-rooms .to) (equivalent→keeps others rooms (equivalent-sym e)))
 
-  -- a room and its partner stand at the same position
+  -- a room and its partner stand at the same position and have the same label
   pub equivalent→same-position : (a : ℕ) → a < length rooms → positionOf others (e .pair-rooms .to a) ≡ positionOf rooms a
   equivalent→same-position = keeps→position rooms others k ko there keeps same-size
+
+  pub equivalent→same-label : (a : ℕ) → a < length rooms → labelOf others (e .pair-rooms .to a) ≡ labelOf rooms a
+  equivalent→same-label = keeps→label rooms others k ko there keeps same-size
 
   pub equivalent→same-labels : labelList rooms ≡ labelList others
   equivalent→same-labels =
@@ -109,5 +133,5 @@ module _ (rooms others : List Room) (k : Floorplan (planOf rooms)) (ko : Floorpl
       same i h =
           let (here, at) = room-at-position rooms k (suc i) (omega arith) h in
           let room = roomAtPosition rooms (suc i) in
-          label-list-at rooms k i h ∙ sym (keeps→label rooms others k ko there keeps same-size room here) ∙ sym (label-by-position others ko (there room) (keeps .there< room here))
+          label-list-at rooms k i h ∙ sym (equivalent→same-label room here) ∙ sym (label-by-position others ko (there room) (keeps .there< room here))
           ∙ ap (labelAt (labelList others)) (equivalent→same-position room here ∙ at)

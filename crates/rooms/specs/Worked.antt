@@ -10,12 +10,12 @@ use Rattle.record.specs.Record.{bodyBit}
 use Rattle.drawing.specs.declared.Room.{Room}
 use Rattle.rooms.specs.Causes.{AcceptedRooms}
 use Rattle.rooms.specs.LabelList.{labelList, recordOfRooms}
-use Rattle.rooms.specs.DecideCauses.{dec-room-size, dec-overlap, dec-uncovered, dec-four-meet, dec-accepted}
+use Rattle.rooms.specs.DecideCauses.{dec-room-size, dec-overlap, dec-uncovered, dec-four-meet, dec-name-twice, dec-accepted}
 use Rattle.rooms.specs.Demand3.{dec-equivalent}
 
--- left, bottom, right, top
+-- left, bottom, right, top, unnamed
 abbrev room : ℕ → ℕ → ℕ → ℕ → Room
-room left bottom right top = record { left = left; bottom = bottom; right = right; top = top }
+room left bottom right top = record { left = left; bottom = bottom; right = right; top = top; name = 0 }
 
 -- ---- the sheet's plans
 abbrev beside : List Room
@@ -73,3 +73,23 @@ worked-equivalences : (holds (dec-equivalent beside besideTurned (accepted besid
     × (holds (dec-equivalent pinwheel turnedPinwheel (accepted pinwheel (all-accepted .3)) (accepted turnedPinwheel (all-accepted .5))) ≡ false)
 unfolding holds dec-equivalent recordOfRooms pack byteOf value bodyBit tripleAt
 worked-equivalences = (refl, refl, refl, refl)
+
+-- ---- names
+-- three rooms in a row, of these names
+abbrev rowNamed : (first second third : ℕ) → List Room
+rowNamed first second third =
+    record { left = 0; bottom = 0; right = 1; top = 1; name = first } ∷ record { left = 1; bottom = 0; right = 2; top = 1; name = second }
+    ∷ record { left = 2; bottom = 0; right = 3; top = 1; name = third } ∷ []
+
+-- "20 for one nonzero name on two rooms": next to each other, with an unnamed room between, and of the largest name; but 0 "may occur
+-- often"
+worked-names : (holds (dec-name-twice (rowNamed 7 7 1)) ≡ true) × (holds (dec-name-twice (rowNamed 7 0 7)) ≡ true)
+    × (holds (dec-name-twice (rowNamed 65535 1 65535)) ≡ true) × (holds (dec-name-twice (rowNamed 7 8 9)) ≡ false)
+    × (holds (dec-name-twice (rowNamed 0 7 0)) ≡ false) × (holds (dec-name-twice (rowNamed 0 0 0)) ≡ false)
+unfolding holds dec-name-twice
+worked-names = (refl, refl, refl, refl, refl, refl)
+
+-- "the record holds no names"
+worked-named-record : recordOfRooms (rowNamed 7 8 9) ≡ recordOfRooms (rowNamed 0 0 0)
+unfolding recordOfRooms pack byteOf value bodyBit tripleAt
+worked-named-record = refl

@@ -7,5 +7,5 @@ use Rattle.text.specs.Places.{Places}
 
 -- the labels and corners of n rooms, by position, in lists
 pub record Plan (n : ℕ) (labels left bottom right top : List ℕ) : Type 0 where
-  pub places : Places n labels left bottom right top
+  pub places : Places n labels
   pub within : (k : ℕ) → k < n → Within n (roomIn left bottom right top (suc k))

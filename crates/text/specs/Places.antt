@@ -6,14 +6,10 @@ use Rattle.record.specs.Labels.{labelAt}
 use Rattle.drawing.specs.Corners.{roomIn}
 use Rattle.text.specs.View.{View}
 
--- the lists have places for n rooms
-pub record Places (n : ℕ) (labels left bottom right top : List ℕ) : Type 0 where
+-- there are places for n rooms: the corners stand in arrays of 255
+pub record Places (n : ℕ) (labels : List ℕ) : Type 0 where
   pub few : n ≤ 255
   pub labels-length : n ≤ length labels
-  pub left-length : n ≤ length left
-  pub bottom-length : n ≤ length bottom
-  pub right-length : n ≤ length right
-  pub top-length : n ≤ length top
 
 -- the view of the first n
 abbrev pub viewIn : View → (labels left bottom right top : List ℕ) (n : ℕ) → List ℕ

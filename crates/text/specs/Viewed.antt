@@ -5,7 +5,7 @@ use mathlib.Core.Path.{_≡_, sym, ap, subst, _∙_}
 use Prim.Native.Nat.{ℕ, suc, _≤_, _<_}
 use native.Mathlib.Omega.{arith}
 use lib.ListN.{length, getD, drop, List·getD-append}
-use Rattle.finite.specs.Table.{table, length-table, getD-table}
+use Rattle.finite.specs.Table.{getD-table}
 use Rattle.record.specs.Labels.{labelAt}
 use Rattle.record.specs.Read.{kindOf, bodyOf, labelsOf}
 use Rattle.record.specs.Record.{tripleIn}
@@ -13,10 +13,11 @@ use Rattle.record.specs.Refusal.{numberOf}
 use Rattle.record.specs.Backward.{length-decode}
 use Rattle.record.specs.Checked.{checked, Sorted, refused, read, sorted, refused-checked, readable-checked}
 use Rattle.record.specs.declared.Refusal.{Refusal}
-use Rattle.drawing.specs.Corners.{leftsOf, bottomsOf, rightsOf, topsOf, roomIn}
-use Rattle.drawing.specs.Drawing.{leftAt, bottomAt, rightAt, topAt, roomAt}
+use Rattle.drawing.specs.Corners.{roomIn}
+use Rattle.drawing.specs.Drawing.{roomAt, drawingOf}
 use Rattle.drawing.specs.declared.Room.{Room}
-use Rattle.answers.specs.Answer.{Short, dec-short, Few, recordAnswer, written}
+use Rattle.answers.specs.Answer.{Short, dec-short, Few, recordAnswer, countOf, written}
+use Rattle.answers.specs.Corners.{Corners, corners, roomsFrom, HoldDrawing}
 use Rattle.answers.specs.declared.RecordAnswer.{RecordAnswer}
 use Rattle.answers.specs.declared.RecordAnswer.the-variants.{Read, Refused}
 use Rattle.text.specs.View.{View, viewOf, printed, refusedLine}
@@ -37,17 +38,10 @@ abbrev Is-read : RecordAnswer → Type 0
 Is-read (Read n) = Unit
 Is-read (Refused refusal) = ⊥
 
-abbrev countOf : RecordAnswer → ℕ
-countOf (Read n) = n
-countOf (Refused refusal) = 0
-
 -- ---- 255 places are enough for any record
-enough : (kind : ℕ) → kind ≤ 255 → ¬ Short kind 255 255 255 255 255
+enough : (kind : ℕ) → kind ≤ 255 → ¬ Short kind 255 255
 enough kind h (inl s) = omega arith
-enough kind h (inr (inl s)) = omega arith
-enough kind h (inr (inr (inl s))) = omega arith
-enough kind h (inr (inr (inr (inl s)))) = omega arith
-enough kind h (inr (inr (inr (inr s)))) = omega arith
+enough kind h (inr s) = omega arith
 
 never : {A : Type 0} {n : ℕ} {refusal : Refusal} → Read n ≡ Refused refusal → A
 never e = absurd (subst Is-read e tt)
@@ -56,49 +50,40 @@ length-labels : (bytes : List ℕ) → length (labelsOf bytes) ≡ kindOf bytes
 unfolding labelsOf
 length-labels bytes = length-decode (tripleIn (bodyOf bytes)) (kindOf bytes)
 
--- ---- what Record in answered for these bytes, and its output slices then, where each held `before`
+-- ---- what was read of these bytes where there are 255 places: the answer, the labels' slice, which held `before`, and the corners
 pub record Written (bytes : List ℕ) (answer : RecordAnswer) (labels left bottom right top : List ℕ) : Type 0 where
   pub byte : kindOf bytes ≤ 255
   pub before : List ℕ
-  pub answered : answer ≡ recordAnswer bytes 255 255 255 255 255
+  pub answered : answer ≡ recordAnswer bytes 255 255
   pub few : Few answer
   pub list : labels ≡ written answer (labelsOf bytes) before
-  pub lefts : left ≡ written answer (leftsOf (labelsOf bytes)) before
-  pub bottoms : bottom ≡ written answer (bottomsOf (labelsOf bytes)) before
-  pub rights : right ≡ written answer (rightsOf (labelsOf bytes)) before
-  pub tops : top ≡ written answer (topsOf (labelsOf bytes)) before
+  pub rooms : HoldDrawing answer bytes (corners left bottom right top)
 
--- the numbers that are written from the front of a list
-module _ (labels : List ℕ) {n : ℕ} (size : length labels ≡ n) (k : ℕ) (inside : k < n) where
-  front-label : {now : List ℕ} (rest : List ℕ) → now ≡ labels ++ rest → getD now k 0 ≡ getD labels k 0
-  front-label rest e = ap (λ (l : List ℕ). getD l k 0) e ∙ List·getD-append labels rest 0 k (omega arith)
+-- a label that is written from the front of a list
+front-label : (labels : List ℕ) {n : ℕ} → length labels ≡ n → (k : ℕ) → k < n → {now : List ℕ} (rest : List ℕ) → now ≡ labels ++ rest
+    → getD now k 0 ≡ getD labels k 0
+front-label labels size k inside rest e = ap (λ (l : List ℕ). getD l k 0) e ∙ List·getD-append labels rest 0 k (omega arith)
 
-  front-corner : (corner : ℕ → ℕ) {now : List ℕ} (rest : List ℕ) → now ≡ table corner (length labels) ++ rest → getD now k 0 ≡ corner k
-  front-corner corner rest e =
-      ap (λ (l : List ℕ). getD l k 0) e
-      ∙ List·getD-append (table corner (length labels)) rest 0 k (omega (arith, length-table corner (length labels)))
-      ∙ getD-table corner (length labels) k 0 (omega arith)
-
-  front-room : {left bottom right top : List ℕ} (rest : List ℕ) → left ≡ leftsOf labels ++ rest → bottom ≡ bottomsOf labels ++ rest
-      → right ≡ rightsOf labels ++ rest → top ≡ topsOf labels ++ rest
-      → roomIn left bottom right top (suc k) ≡ roomAt (labelAt labels) n (suc k)
-  front-room rest l b r t =
-      let right = ap (λ (m : ℕ). rightAt (labelAt labels) m (suc k)) size in
-      let top = ap (λ (m : ℕ). topAt (labelAt labels) m (suc k)) size in λ i. record {
-        left = front-corner (λ j. leftAt (labelAt labels) (suc j)) rest l i;
-        bottom = front-corner (λ j. bottomAt (labelAt labels) (suc j)) rest b i;
-        right = (front-corner (λ j. rightAt (labelAt labels) (length labels) (suc j)) rest r ∙ right) i;
-        top = (front-corner (λ j. topAt (labelAt labels) (length labels) (suc j)) rest t ∙ top) i;
-      }
+-- a room of the drawing
+room-drawn : (labels : List ℕ) (c : Corners) (n : ℕ) → length labels ≡ n → roomsFrom c n ≡ drawingOf labels → (k : ℕ) → k < n
+    → roomIn (c .left) (c .bottom) (c .right) (c .top) (suc k) ≡ roomAt (labelAt labels) n (suc k)
+unfolding drawingOf
+room-drawn labels c n size held k inside =
+    let room : ℕ → Room = λ i. roomIn (c .left) (c .bottom) (c .right) (c .top) (suc i) in
+    let drawn : ℕ → Room = λ i. roomAt (labelAt labels) (length labels) (suc i) in
+    sym (getD-table room n k (room 0) inside)
+    ∙ ap (λ (rooms : List Room). getD rooms k (room 0)) held
+    ∙ getD-table drawn (length labels) k (room 0) (omega arith)
+    ∙ ap (λ (m : ℕ). roomAt (labelAt labels) m (suc k)) size
 
 -- ---- what Record in answers
 module _ (bytes : List ℕ) (byte : kindOf bytes ≤ 255) where
-  answer-checked : recordAnswer bytes 255 255 255 255 255 ≡ checked Refused bytes (Read (kindOf bytes))
+  answer-checked : recordAnswer bytes 255 255 ≡ checked Refused bytes (Read (kindOf bytes))
   answer-checked =
-      let fit = if-neg (dec-short (kindOf bytes) 255 255 255 255 255) (enough (kindOf bytes) byte) _ _ in
+      let fit = if-neg (dec-short (kindOf bytes) 255 255) (enough (kindOf bytes) byte) _ _ in
       ap (λ (good : RecordAnswer). checked Refused bytes good) fit
 
-  kind-read : (n : ℕ) → Read n ≡ recordAnswer bytes 255 255 255 255 255 → (n ≡ kindOf bytes) × (1 ≤ n)
+  kind-read : (n : ℕ) → Read n ≡ recordAnswer bytes 255 255 → (n ≡ kindOf bytes) × (1 ≤ n)
   kind-read n e = go (sorted bytes)
     where
       go : Sorted bytes → (n ≡ kindOf bytes) × (1 ≤ n)
@@ -119,7 +104,7 @@ module _ (bytes : List ℕ) (byte : kindOf bytes ≤ 255) where
     listed : for (Read (kindOf bytes)) ≡ viewOf view (labelsOf bytes)
     listed = ap (λ (n : ℕ). for (Read n)) (sym (length-labels bytes))
 
-    text-answer : for (recordAnswer bytes 255 255 255 255 255) ≡ printed view bytes
+    text-answer : for (recordAnswer bytes 255 255) ≡ printed view bytes
     text-answer = ap for answer-checked ∙ go (sorted bytes)
       where
         go : Sorted bytes → for (checked Refused bytes (Read (kindOf bytes))) ≡ printed view bytes
@@ -150,7 +135,7 @@ module _ {bytes : List ℕ} {n : ℕ} {labels left bottom right top : List ℕ} 
   label-read k h = front-label (labelsOf bytes) size-read k h (drop n (w .before)) (w .list)
 
   pub room-read : (k : ℕ) → k < n → roomIn left bottom right top (suc k) ≡ roomAt (labelAt (labelsOf bytes)) n (suc k)
-  room-read k h = front-room (labelsOf bytes) size-read k h (drop n (w .before)) (w .lefts) (w .bottoms) (w .rights) (w .tops)
+  room-read k h = room-drawn (labelsOf bytes) (corners left bottom right top) n size-read (w .rooms) k h
 
   pub read-printed : (view : View) → Local view → viewIn view labels left bottom right top n ≡ printed view bytes
   read-printed view here =

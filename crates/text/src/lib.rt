@@ -1,15 +1,13 @@
 // Text put byte by byte into a lent store: forms with numbers in them, of which all that the programs print is made.
 ghost use mathlib.Core.List.{[], _∷_};
 ghost use mathlib.Core.Path.{_≡_};
-ghost use Prim.Native.Nat.{suc, _+_, _*_, _≤_, _<_};
+ghost use Prim.Native.Nat.{_+_, _*_, _≤_, _<_};
 ghost use lib.ListN.{length};
 ghost use Rattle.record.specs.Refusal.{numberOf};
-ghost use Rattle.drawing.specs.Corners.{roomIn};
 ghost use Rattle.digits.specs.Decimal.{decimal};
 ghost use Rattle.text.specs.Form.{filled};
 ghost use Rattle.finite.specs.Put.{Put};
 ghost use Rattle.text.specs.View.{refusedLine};
-use drawing::Room;
 use record::Refusal;
 
 // Puts a byte after the text so far, which ends at `at`, and answers where the text then ends. So do all that follow.
@@ -64,17 +62,4 @@ pub fn put_refusal(text: &mut [u8], refusal: Refusal) -> usize
 {
     let number = refusal.number() as u16;
     put_form(text, 0, b"refused %\n", &[number])
-}
-
-// The room with index i, of which the corners stand in lists by position.
-pub fn room_at(left: &[u16], bottom: &[u16], right: &[u16], top: &[u16], i: usize) -> Room
-    requires { ⌜ (i < length (now left)) × (i < length (now bottom)) × (i < length (now right)) × (i < length (now top)) ⌝ }
-    ensures { λ r. ⌜ r ≡ roomIn (now (left .entry)) (now (bottom .entry)) (now (right .entry)) (now (top .entry)) (suc i) ⌝ }
-{
-    Room {
-        left: left[i],
-        bottom: bottom[i],
-        right: right[i],
-        top: top[i],
-    }
 }

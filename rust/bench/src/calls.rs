@@ -41,17 +41,17 @@ pub const LABELS_IN: Call = Call {
 pub const RECORD_IN: Call = Call {
     name: "Record in",
     times: |cases, calls| {
-        let [mut drawing, mut same] = [Drawing::new(), Drawing::new()];
+        let (mut drawing, mut same) = (Drawing::of_library(), Drawing::of_rust());
         quickest(
             cases,
             calls,
-            |case| drawing.slices().library(&case.record),
-            |case| same.slices().fast(&case.record),
+            |case| drawing.by_library(&case.record),
+            |case| same.by_tuned(&case.record),
         )
     },
     sheet: |cases| {
-        let mut drawing = Drawing::new();
-        one_turn(cases, |case| drawing.slices().sheet(&case.record))
+        let mut drawing = Drawing::of_rust();
+        one_turn(cases, |case| drawing.by_sheet(&case.record))
     },
 };
 

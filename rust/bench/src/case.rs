@@ -1,9 +1,10 @@
 //! What the calls are timed with.
 
-use crate::outputs::{Drawing, Numbers};
+use crate::outputs::Drawing;
 use crate::room_list::RoomList;
 use crate::{lists, shapes, texts};
 use compare::{of_library, Floorplan};
+use reference::cases::names::random_names;
 use reference::cases::slicing::SlicingPlan;
 use reference::cases::text::mixed_text;
 use reference::cases::walk::random_list;
@@ -16,7 +17,8 @@ use reference::Numbering;
 pub struct Case {
     pub labels: Vec<u8>,
     pub record: Vec<u8>,
-    /// The drawing of the record, stretched and shuffled.
+    /// The drawing of the record, stretched and shuffled. All rooms are named,
+    /// at random and no two alike: then every name has to be looked at.
     pub list: RoomList,
     numbering: Numbering,
     /// The labels as text, typed by many hands.
@@ -41,7 +43,8 @@ impl Case {
         plan.stretch(random);
         plan.shuffle(random);
         // Copies of the generator, so that the plans are the same as without
-        // texts, trees and patterns.
+        // names, texts, trees and patterns.
+        plan.put_names(&random_names(n, &mut random.clone()));
         let slicing = SlicingPlan::random(n, &mut random.clone());
         Self {
             text: mixed_text(&walked.labels, &mut random.clone()),
@@ -83,30 +86,27 @@ impl Case {
     }
 
     fn check_record_in(&self) {
-        let (mut library, mut rust) = (Drawing::new(), Drawing::new());
+        let (mut library, mut rust) = (Drawing::of_library(), Drawing::of_rust());
         let counts = (
-            library.slices().library(&self.record).ok(),
-            rust.slices().fast(&self.record).ok(),
+            library.by_library(&self.record).ok(),
+            rust.by_tuned(&self.record).ok(),
         );
         let n = self.labels.len();
         assert_eq!(counts, (Some(n), Some(n)), "{:02X?}", self.record);
         assert_eq!(library.labels[..n], self.labels, "{:02X?}", self.record);
-        assert_eq!(library, rust, "{:02X?}", self.record);
+        assert_eq!(library.labels, rust.labels, "{:02X?}", self.record);
+        let rooms = rust.rooms.map(of_library::room);
+        assert_eq!(library.rooms, rooms, "{:02X?}", self.record);
     }
 
     fn check_rooms_in(&self) {
-        let (mut library, mut rust) = (Numbers::new(), Numbers::new());
-        let lengths = (
-            library.by_library(&self.list).ok(),
-            rust.by_tuned(&self.list).ok(),
-        );
-        let (rooms, length) = (&self.list.rooms, self.record.len());
-        assert_eq!(lengths, (Some(length), Some(length)), "{rooms:?}");
-        assert_eq!(library.record[..length], self.record, "{rooms:?}");
-        let n = rooms.len();
-        assert_eq!(library.labels[..n], self.numbering.labels, "{rooms:?}");
-        assert_eq!(library.positions[..n], self.numbering.positions);
-        assert_eq!(library, rust, "{rooms:?}");
+        let rooms = &self.list.rooms;
+        let numbers = self.list.answer().expect("a floorplan is accepted");
+        let (n, length) = (rooms.len(), self.record.len());
+        assert_eq!(numbers.record[..length], self.record, "{rooms:?}");
+        assert_eq!(numbers.labels[..n], self.numbering.labels, "{rooms:?}");
+        assert_eq!(numbers.positions[..n], self.numbering.positions);
+        assert_eq!(numbers.names[..n], self.numbering.names, "{rooms:?}");
     }
 
     fn check_question(&self) {

@@ -7,6 +7,7 @@
 mod calls;
 mod case;
 mod lists;
+mod names;
 mod outputs;
 mod room_list;
 mod shapes;
@@ -19,7 +20,7 @@ use calls::{
 };
 use case::Case;
 use lists::LISTS;
-use outputs::Numbers;
+use names::NAMES;
 use reference::cases::Random;
 use reference::Refusal;
 use room_list::RoomList;
@@ -65,6 +66,8 @@ fn main() {
         }
     }
 
+    print_names("nanoseconds per call of Rooms in, by the names");
+
     print_refused("nanoseconds per call of Rooms in, refused");
 
     print_texts("nanoseconds per call of Tidy, by the text");
@@ -101,14 +104,10 @@ fn cases(n: usize) -> Vec<Case> {
 /// Random lists of `n` rooms. Both versions of Rooms in refuse them so.
 fn refused_lists(refusal: Refusal, n: usize) -> Vec<RoomList> {
     let mut random = Random::from_seed(n as u64);
-    let mut numbers = Numbers::new();
     let lists = (0..PLANS).map(|_| RoomList::refused(n, refusal, &mut random));
     let lists: Vec<RoomList> = lists.collect();
     for list in &lists {
-        let library = numbers.by_library(list).map_err(|r| r.number());
-        let expected = Err(u32::from(refusal.number()));
-        assert_eq!(library, expected, "{:?}", list.rooms);
-        assert_eq!(numbers.by_tuned(list), Err(refusal), "{:?}", list.rooms);
+        assert_eq!(list.answer().err(), Some(refusal), "{:?}", list.rooms);
     }
     lists
 }
@@ -132,26 +131,39 @@ fn print_row(call: Call, cases: &[Case], calls: usize, worth: f64) {
     println!(" {:>10.2} {:>6.2}", times.tuned * worth, times.ratio());
 }
 
-/// Prints the times for lists with each refusal.
-fn print_refused(title: &str) {
-    println!("\n{title}");
-    print!("{:<9} {:>5} {:>10}", "", "n", "library");
-    println!(" {:>10} {:>6}", "tuned", "ratio");
-    // All but 1, which only the length of the list decides.
-    for &refusal in &Refusal::OF_ROOMS[1..] {
+/// Prints the times for lists with names of each kind.
+fn print_names(title: &str) {
+    print_rooms_head(title);
+    for kind in NAMES {
         for n in CALLS {
-            print_refused_row(refusal, n);
+            print_rooms_row(kind.name, n, &kind.lists(PLANS, n));
         }
     }
 }
 
-/// Prints the times for lists of `n` rooms that are refused so, and the ratio
-/// of the library to the tuned Rust version.
-fn print_refused_row(refusal: Refusal, n: usize) {
-    let lists = refused_lists(refusal, n);
-    let times = rooms_in(&lists, calls_in_a_round(&lists, n), |list| list);
-    let number = refusal.number();
-    print!("refused {number} {n:>5} {:>10.2}", times.library);
+/// Prints the times for lists with each refusal.
+fn print_refused(title: &str) {
+    print_rooms_head(title);
+    // All but 1, which only the length of the list decides.
+    for &refusal in &Refusal::OF_ROOMS[1..] {
+        let name = format!("refused {}", refusal.number());
+        for n in CALLS {
+            print_rooms_row(&name, n, &refused_lists(refusal, n));
+        }
+    }
+}
+
+fn print_rooms_head(title: &str) {
+    println!("\n{title}");
+    print!("{:<10} {:>4} {:>10}", "", "n", "library");
+    println!(" {:>10} {:>6}", "tuned", "ratio");
+}
+
+/// Prints the times for lists of `n` rooms, and the ratio of the library to the
+/// tuned Rust version.
+fn print_rooms_row(name: &str, n: usize, lists: &[RoomList]) {
+    let times = rooms_in(lists, calls_in_a_round(lists, n), |list| list);
+    print!("{name:<10} {n:>4} {:>10.2}", times.library);
     println!(" {:>10.2} {:>6.2}", times.tuned, times.ratio());
 }
 

@@ -1,5 +1,6 @@
 //! Room lists, accepted and refused.
 
+use crate::outputs::Numbers;
 use compare::of_library;
 use compare::room_damage::{suited_plan, RoomDamage};
 use reference::cases::walk::random_list;
@@ -32,6 +33,18 @@ impl RoomList {
                 return Self::new(rooms);
             }
         }
+    }
+
+    /// What both versions answer the list with, in slices that are long enough.
+    /// They must agree.
+    pub fn answer(&self) -> Result<Numbers, Refusal> {
+        let (mut library, mut rust) = (Numbers::new(), Numbers::new());
+        let by_library = library.by_library(self).map_err(|r| r.number());
+        let answer = rust.by_tuned(self);
+        let expected = answer.map_err(|refusal| u32::from(refusal.number()));
+        assert_eq!(by_library, expected, "{:?}", self.rooms);
+        assert_eq!(library, rust, "{:?}", self.rooms);
+        answer.map(|_| library)
     }
 }
 

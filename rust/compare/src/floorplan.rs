@@ -2,6 +2,7 @@
 //! were made.
 
 use crate::given::GivenRooms;
+use reference::cases::names::some_names;
 use reference::cases::Random;
 use reference::{drawing, record_of, triples, Numbering, Room};
 use std::collections::BTreeSet;
@@ -161,12 +162,26 @@ impl Floorplan {
         random.shuffle(&mut self.0);
     }
 
-    /// Stretches the plan, slides its segments in so many tries and shuffles
-    /// the rooms: what comes out is equivalent.
+    /// Gives the rooms these names, in the order in which they stand.
+    pub fn put_names(&mut self, names: &[u16]) {
+        for (placed, &name) in self.0.iter_mut().zip(names) {
+            placed.room.name = name;
+        }
+    }
+
+    /// Gives the rooms [some names](some_names), and puts them in a random
+    /// order.
+    pub fn name_and_shuffle(&mut self, random: &mut Random) {
+        self.put_names(&some_names(self.0.len(), random));
+        self.shuffle(random);
+    }
+
+    /// Stretches the plan, slides its segments in so many tries, gives the
+    /// rooms other names and shuffles them: what comes out is equivalent.
     pub fn move_about(&mut self, slides: usize, random: &mut Random) {
         self.stretch(random);
         self.slide(slides, random);
-        self.shuffle(random);
+        self.name_and_shuffle(random);
     }
 
     /// The rooms.
@@ -175,7 +190,7 @@ impl Floorplan {
         self.0.iter().map(|placed| placed.room).collect()
     }
 
-    /// The record of the label list, and the labels and positions.
+    /// The record of the label list, the labels and positions, and the names.
     ///
     /// # Panics
     ///
@@ -190,6 +205,7 @@ impl Floorplan {
             record: record_of(n, &triples(&list)),
             labels: self.0.iter().map(|placed| placed.label).collect(),
             positions: self.0.iter().map(|placed| placed.position).collect(),
+            names: by_position.iter().map(|placed| placed.room.name).collect(),
         }
     }
 
@@ -208,6 +224,7 @@ impl Floorplan {
                 bottom: room.left,
                 right: room.top,
                 top: room.right,
+                name: room.name,
             };
         }
     }
@@ -219,6 +236,7 @@ impl Floorplan {
                 bottom: up(room.bottom),
                 right: across(room.right),
                 top: up(room.top),
+                name: room.name,
             };
         }
     }
@@ -249,12 +267,7 @@ pub fn some_box(random: &mut Random) -> Room {
         (end(first), end(first + width))
     };
     let ((left, right), (bottom, top)) = (side(), side());
-    Room {
-        left,
-        bottom,
-        right,
-        top,
-    }
+    Room::from([left, bottom, right, top])
 }
 
 /// So many rising numbers, of which the first and the last are given, if there

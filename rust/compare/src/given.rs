@@ -1,7 +1,8 @@
 //! Inputs that cases are made of.
 
-use crate::lent::hex;
+use crate::lent::shown;
 use crate::records::record_length;
+use reference::cases::unwritten;
 use reference::{
     numbering_of, plan_of, tree_of, Numbered, Numbering, Plan, Questions, Refusal, Room,
 };
@@ -27,7 +28,7 @@ pub type AskedRecord = Given<u8, Questions>;
 /// A record, and the bytes of its plan's cutting tree.
 pub type GivenTree = Given<u8, Vec<u8>>;
 
-/// A room list, and its record, labels and positions.
+/// A room list, and its record, labels, positions and names.
 pub type GivenRooms = Given<Room, Numbering>;
 
 impl<T, A> Given<T, A> {
@@ -114,9 +115,9 @@ impl GivenRooms {
 
     /// The least lengths of the output slices, if the list is accepted.
     #[must_use]
-    pub fn needed(&self) -> [usize; 3] {
+    pub fn needed(&self) -> [usize; 4] {
         let n = self.input.len();
-        [record_length(n), n, n]
+        [record_length(n), n, n, n]
     }
 }
 
@@ -126,30 +127,20 @@ pub(crate) fn written<R>(
     n: usize,
     call: impl FnOnce(Numbered<'_>) -> Result<usize, R>,
 ) -> Result<Numbering, R> {
-    let mut record = vec![0; nenturxo::RECORD_CAPACITY];
-    let [mut labels, mut positions] = [(); 2].map(|()| vec![0; n]);
-    let length = call([&mut record, &mut labels, &mut positions])?;
-    record.truncate(length);
-    Ok(Numbering {
-        record,
-        labels,
-        positions,
-    })
+    let mut numbering = unwritten([nenturxo::RECORD_CAPACITY, n, n, n]);
+    let length = call(numbering.slices())?;
+    numbering.record.truncate(length);
+    Ok(numbering)
 }
 
 impl<A> fmt::Display for Given<u8, A> {
     fn fmt(&self, f: &mut fmt::Formatter<'_>) -> fmt::Result {
-        f.write_str(&hex(&self.input))
+        f.write_str(&shown(&self.input))
     }
 }
 
 impl fmt::Display for GivenRooms {
     fn fmt(&self, f: &mut fmt::Formatter<'_>) -> fmt::Result {
-        write!(f, "{} rooms", self.input.len())?;
-        for room in &self.input {
-            let [left, bottom, right, top] = [room.left, room.bottom, room.right, room.top];
-            write!(f, " ({left},{bottom},{right},{top})")?;
-        }
-        Ok(())
+        write!(f, "{} rooms {}", self.input.len(), shown(&self.input))
     }
 }

@@ -1,6 +1,6 @@
 //! The comparison of one case of "Labels in".
 
-use crate::lent::hex;
+use crate::lent::shown;
 use crate::one_slice::Versions;
 use crate::outcome::{fitting, Answer};
 use crate::records::record_length;
@@ -66,7 +66,7 @@ impl Tally {
         let mut written = vec![0; record.len()];
         let answer = reference::labels_in(labels, &mut written);
         assert_eq!(answer, Ok(record.len()), "length for {labels:?}");
-        assert_eq!(hex(&written), hex(record), "record of {labels:?}");
+        assert_eq!(shown(&written), shown(record), "record of {labels:?}");
 
         self.expect_length(labels, record.len() - 1);
     }

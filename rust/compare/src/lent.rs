@@ -38,11 +38,19 @@ pub const SURROUNDINGS: [Surroundings; 3] = [
 pub trait Entry: Copy + Eq + fmt::Debug {
     /// The entry whose bytes are all `fill`.
     fn of_bytes(fill: u8) -> Self;
+
+    /// The entry as it is printed: numbers in hexadecimal, as records are
+    /// written in the sheet, and rooms as their corners and their names.
+    fn shown(self) -> String;
 }
 
 impl Entry for u8 {
     fn of_bytes(fill: u8) -> Self {
         fill
+    }
+
+    fn shown(self) -> String {
+        format!("{self:02X}")
     }
 }
 
@@ -50,17 +58,40 @@ impl Entry for u16 {
     fn of_bytes(fill: u8) -> Self {
         Self::from_ne_bytes([fill; 2])
     }
+
+    fn shown(self) -> String {
+        format!("{self:04X}")
+    }
 }
 
 impl Entry for reference::Room {
     fn of_bytes(fill: u8) -> Self {
-        Self::from([u16::of_bytes(fill); 4])
+        let number = u16::of_bytes(fill);
+        Self {
+            name: number,
+            ..Self::from([number; 4])
+        }
+    }
+
+    fn shown(self) -> String {
+        of_library::room(self).shown()
     }
 }
 
 impl Entry for nenturxo::Room {
     fn of_bytes(fill: u8) -> Self {
         of_library::room(Entry::of_bytes(fill))
+    }
+
+    fn shown(self) -> String {
+        let Self {
+            left,
+            bottom,
+            right,
+            top,
+            name,
+        } = self;
+        format!("({left},{bottom},{right},{top}; {name})")
     }
 }
 
@@ -127,28 +158,33 @@ impl<T: Entry> Output<T> {
         let as_it_was = |entries: &[T]| entries.iter().all(|&entry| entry == self.fill);
         as_it_was(before) && rest.get(written..).is_some_and(as_it_was)
     }
+
+    /// The same in another type.
+    pub fn map<U>(self, other: impl Fn(T) -> U) -> Output<U> {
+        Output {
+            fill: other(self.fill),
+            buffer: self.buffer.into_iter().map(other).collect(),
+            margin: self.margin,
+        }
+    }
 }
 
-impl<T: Entry + fmt::UpperHex> fmt::Display for Output<T> {
+impl<T: Entry> fmt::Display for Output<T> {
     fn fmt(&self, f: &mut fmt::Formatter<'_>) -> fmt::Result {
         let (before, rest) = self.buffer.split_at(self.margin);
         let (slice, after) = rest.split_at(rest.len() - self.margin);
-        write!(f, "[{}]", hex(slice))?;
+        write!(f, "[{}]", shown(slice))?;
         for (name, entries) in [("before", before), ("after", after)] {
             if entries.iter().any(|&entry| entry != self.fill) {
-                write!(f, ", {name} it [{}]", hex(entries))?;
+                write!(f, ", {name} it [{}]", shown(entries))?;
             }
         }
         Ok(())
     }
 }
 
-/// The entries in hexadecimal, as records are written in the sheet.
-pub fn hex<T: fmt::UpperHex>(entries: &[T]) -> String {
-    let width = 2 * size_of::<T>();
-    let entries: Vec<String> = entries
-        .iter()
-        .map(|entry| format!("{entry:0width$X}"))
-        .collect();
+/// The entries as they are printed.
+pub fn shown<T: Entry>(entries: &[T]) -> String {
+    let entries: Vec<String> = entries.iter().map(|entry| entry.shown()).collect();
     entries.join(" ")
 }

@@ -10,6 +10,7 @@ pub fn room(room: Room) -> nenturxo::Room {
         bottom: room.bottom,
         right: room.right,
         top: room.top,
+        name: room.name,
     }
 }
 

@@ -59,6 +59,14 @@ impl<O> Outcome<O> {
         lent.expect_still(input);
         Self { returned, outputs }
     }
+
+    /// The same with output slices of another type.
+    pub fn map<P>(self, other: impl FnOnce(O) -> P) -> Outcome<P> {
+        Outcome {
+            returned: self.returned,
+            outputs: other(self.outputs),
+        }
+    }
 }
 
 impl<O: fmt::Display> fmt::Display for Outcome<O> {

@@ -1,6 +1,6 @@
 //! Runs of the programs.
 
-use crate::lent::hex;
+use crate::lent::shown;
 use crate::tally::Tally;
 use reference::plan_of;
 use std::env;
@@ -84,7 +84,7 @@ impl Tally {
         let input = pieces.concat();
         let printed = program.printed(pieces);
         if let Err(difference) = (program.judge)(&printed, &input) {
-            let input = hex(&input);
+            let input = shown(&input);
             panic!("{difference}\ninput   {input}\nprinted {printed}");
         }
         self.count(&plan_of(&input));

@@ -5,7 +5,7 @@ use crate::lent::{Surroundings, SURROUNDINGS};
 use crate::outcome::{fitting, number, Answer, Outcome, Outcomes};
 use crate::record_slices::{Capacities, Outputs};
 use crate::tally::Tally;
-use reference::Refusal;
+use reference::{Refusal, Room};
 
 impl Tally {
     /// Hands a record and output slices of the given lengths to the library,
@@ -27,7 +27,7 @@ impl Tally {
     /// If the answer is another, or as [`Self::record_in`].
     pub fn expect_rooms(&mut self, given: &GivenRecord, capacities: Capacities) {
         let n = usize::from(given.input[0]);
-        let expected = fitting(n, [n; 5], capacities);
+        let expected = fitting(n, [n; 2], capacities);
         let answer = self.record_in(given, capacities);
         assert_eq!(answer, expected, "{given} into {capacities:?}");
     }
@@ -46,11 +46,11 @@ impl Tally {
         assert_eq!(plan.map(|plan| &*plan.labels), Ok(labels), "{given}");
 
         let n = labels.len();
-        self.expect_rooms(&given, [n; 5]);
-        self.expect_rooms(&given, [n + 3, n + 1, n, n + 2, n + 4]);
+        self.expect_rooms(&given, [n; 2]);
+        self.expect_rooms(&given, [n + 3, n + 1]);
         // Which slice is the short one goes round with the records.
-        let mut capacities = [n + 1; 5];
-        capacities[record.iter().map(|&byte| usize::from(byte)).sum::<usize>() % 5] = n - 1;
+        let mut capacities = [n + 1; 2];
+        capacities[record.iter().map(|&byte| usize::from(byte)).sum::<usize>() % 2] = n - 1;
         self.expect_rooms(&given, capacities);
     }
 
@@ -62,7 +62,7 @@ impl Tally {
     /// If the answer is another, or as [`Self::record_in`].
     pub fn expect_refused_record(&mut self, record: &[u8], refusal: Refusal) {
         let given = GivenRecord::new(record);
-        for capacities in [[0; 5], [3, 2, 1, 0, 4], [255; 5]] {
+        for capacities in [[0; 2], [3, 1], [255; 2]] {
             let answer = self.record_in(&given, capacities);
             assert_eq!(answer, Err(refusal), "{given} into {capacities:?}");
         }
@@ -80,12 +80,12 @@ impl Tally {
         records: impl Iterator<Item = [u8; LENGTH]>,
         refusal: Refusal,
     ) {
-        let untouched = Outputs::new([5; 5], SURROUNDINGS[0]);
+        let untouched = Outputs::new([5; 2], SURROUNDINGS[0]);
         let mut outputs = untouched.clone();
         let expected = (Err(refusal), Err(number(refusal)));
         for record in records {
             let defined = reference::plan_of(&record).map(|plan| plan.labels.len());
-            let library = outputs.slices().library(&record).map_err(|r| r.number());
+            let library = by_library(&record, &mut outputs);
             assert_eq!((defined, library), expected, "{record:02X?}");
             assert!(outputs == untouched, "{record:02X?} wrote {outputs}");
             self.count(&defined);
@@ -93,22 +93,31 @@ impl Tally {
     }
 }
 
+/// What the library answers a record with.
+fn by_library(record: &[u8], outputs: &mut Outputs<nenturxo::Room>) -> Result<usize, u32> {
+    let (labels, rooms) = outputs.slices();
+    nenturxo::record_in(record, labels, rooms).map_err(|refusal| refusal.number())
+}
+
 /// The answer that the library and both Rust versions agree on.
 fn agreed(given: &GivenRecord, capacities: Capacities, around: Surroundings) -> Answer {
-    let (record, outputs) = (&given.input[..], || Outputs::new(capacities, around));
+    let record = &given.input[..];
+    let outputs = || Outputs::<Room>::new(capacities, around);
     let mut answer = Err(Refusal::NoKind);
+    let expected = Outcome::of(record, outputs(), around, |_, outputs| {
+        let (labels, rooms) = outputs.slices();
+        answer = given.and_then(|plan| plan.write(labels, rooms));
+        answer.map_err(number)
+    });
+    let fast = Outcome::of(record, outputs(), around, |record, outputs| {
+        let (labels, rooms) = outputs.slices();
+        reference::fast::record_in(record, labels, rooms).map_err(number)
+    });
+    let outputs = Outputs::new(capacities, around);
     let outcomes = Outcomes {
-        expected: Outcome::of(record, outputs(), around, |_, outputs| {
-            answer = outputs.slices().definitions(given);
-            answer.map_err(number)
-        }),
-        fast: Outcome::of(record, outputs(), around, |record, outputs| {
-            outputs.slices().fast(record).map_err(number)
-        }),
-        library: Outcome::of(record, outputs(), around, |record, outputs| {
-            let answer = outputs.slices().library(record);
-            answer.map_err(|refusal| refusal.number())
-        }),
+        expected: expected.map(Outputs::of_library),
+        fast: fast.map(Outputs::of_library),
+        library: Outcome::of(record, outputs, around, by_library),
     };
     outcomes.agree(
         format_args!("record {given}, capacities {capacities:?}"),

@@ -2,17 +2,18 @@
 
 use crate::causes::first_cause;
 use crate::floorplan::Floorplan;
+use reference::cases::names::{named, put_one_twice, some_names};
 use reference::cases::Random;
 use reference::{Refusal, Room};
 
 /// What is wrong with a room list: of each cause of a refusal, in the sheet's
 /// order, whether it is there. There may be any number of them at once.
 #[derive(Clone, Copy, Debug)]
-pub struct RoomDamage([bool; 5]);
+pub struct RoomDamage([bool; 6]);
 
 impl RoomDamage {
     /// The number of combinations.
-    pub const COUNT: usize = 32;
+    pub const COUNT: usize = 64;
 
     /// The most rooms that a damage adds to a list, unless it is that there
     /// are too many.
@@ -26,7 +27,7 @@ impl RoomDamage {
 
     /// Every combination, no damage too.
     pub fn all() -> impl Iterator<Item = Self> {
-        (0..Self::COUNT).map(|bits| Self([1, 2, 4, 8, 16].map(|worth| bits & worth != 0)))
+        (0..Self::COUNT).map(|bits| Self([1, 2, 4, 8, 16, 32].map(|worth| bits & worth != 0)))
     }
 
     /// The refusal that comes first in the sheet's order.
@@ -35,10 +36,10 @@ impl RoomDamage {
         first_cause(Refusal::OF_ROOMS, self.0)
     }
 
-    /// The rooms of a plan with this damage and no other, in a random order.
-    /// The plan is [suited](are_suited).
+    /// The rooms of a plan with this damage and no other, in a random order and
+    /// with other names. The plan is [suited](are_suited).
     pub fn rooms(self, plan: &Floorplan, random: &mut Random) -> Vec<Room> {
-        let [too_many, empty_room, shared_square, open_square, four_meet] = self.0;
+        let [too_many, empty_room, shared_square, open_square, four_meet, name_twice] = self.0;
         let mut rooms = plan.rooms();
         if four_meet {
             // Edges that can still be drawn back, if need be.
@@ -57,6 +58,11 @@ impl RoomDamage {
         if too_many {
             let count = random.pick(&[256, 257, 300, 1000]);
             rooms = rooms.into_iter().cycle().take(count).collect();
+        }
+        // All new, since a room that was copied has the name of the other one.
+        rooms = named(&rooms, &some_names(rooms.len(), random));
+        if name_twice {
+            put_one_twice(&mut rooms, random);
         }
         random.shuffle(&mut rooms);
         rooms
@@ -126,12 +132,7 @@ fn cut_in_four(rooms: &mut Vec<Room>, least: u16, random: &mut Random) {
     let y = random.number(room.bottom + least, room.top - least);
     for (left, right) in [(room.left, x), (x, room.right)] {
         for (bottom, top) in [(room.bottom, y), (y, room.top)] {
-            rooms.push(Room {
-                left,
-                bottom,
-                right,
-                top,
-            });
+            rooms.push(Room::from([left, bottom, right, top]));
         }
     }
 }

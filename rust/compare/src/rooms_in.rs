@@ -6,12 +6,12 @@ use crate::lent::{Output, Surroundings};
 use crate::of_library;
 use crate::outcome::{fitting, number, Answer, Outcome, Outcomes};
 use crate::tally::Tally;
-use reference::{Numbered, Numbering, Refusal, Room};
+use reference::{Numbered, Numbering, Refusal};
 use std::fmt;
 
-/// The lengths of the output slices: for the record, the labels and the
-/// positions.
-pub type Capacities = [usize; 3];
+/// The lengths of the output slices: for the record, the labels, the positions
+/// and the names.
+pub type Capacities = [usize; 4];
 
 impl Tally {
     /// Hands a room list and output slices of the given lengths to the
@@ -60,13 +60,13 @@ impl Tally {
     /// As [`Self::rooms_in`].
     pub fn rooms(&mut self, given: &GivenRooms) {
         let choices = if given.answer.is_ok() {
-            let [record, n, _] = given.needed();
+            let [record, n, ..] = given.needed();
             // Which slice is the short one goes round with the lists.
-            let mut short = [record + 1, n + 1, n + 1];
-            short[usize::from(given.input[0].right) % 3] -= 2;
-            [[record, n, n], [record + 3, n + 1, n + 2], short]
+            let mut short = [record + 1, n + 1, n + 1, n + 1];
+            short[usize::from(given.input[0].right) % 4] -= 2;
+            [[record, n, n, n], [record + 3, n + 1, n + 2, n + 4], short]
         } else {
-            [[0; 3], [2, 1, 0], [97, 255, 255]]
+            [[0; 4], [2, 1, 0, 1], [97, 255, 255, 255]]
         };
         for capacities in choices {
             let _ = self.rooms_in(given, capacities);
@@ -79,38 +79,70 @@ impl Tally {
 /// # Errors
 ///
 /// As [`nenturxo::rooms_in`].
-pub fn library_numbering(rooms: &[Room]) -> Result<Numbering, nenturxo::Refusal> {
-    let rooms = of_library::rooms(rooms);
-    written(rooms.len(), |[record, labels, positions]| {
-        nenturxo::rooms_in(&rooms, record, labels, positions)
-    })
+pub fn library_numbering(rooms: &[nenturxo::Room]) -> Result<Numbering, nenturxo::Refusal> {
+    written(rooms.len(), |slices| into_slices(rooms, slices))
 }
 
-/// The slices for record, labels and positions with their surroundings.
+/// Hands rooms to the library.
+///
+/// # Errors
+///
+/// As [`nenturxo::rooms_in`].
+pub fn into_slices(
+    rooms: &[nenturxo::Room],
+    slices: Numbered<'_>,
+) -> Result<usize, nenturxo::Refusal> {
+    let Numbered {
+        record,
+        labels,
+        positions,
+        names,
+    } = slices;
+    nenturxo::rooms_in(rooms, record, labels, positions, names)
+}
+
+/// The slices for record, labels, positions and names with their surroundings.
 #[derive(PartialEq, Eq)]
-struct Outputs([Output<u8>; 3]);
+struct Outputs {
+    record: Output<u8>,
+    labels: Output<u8>,
+    positions: Output<u8>,
+    names: Output<u16>,
+}
 
 impl Outputs {
-    fn new(capacities: Capacities, around: Surroundings) -> Self {
-        Self(capacities.map(|capacity| Output::new(capacity, around)))
+    fn new([record, labels, positions, names]: Capacities, around: Surroundings) -> Self {
+        Self {
+            record: Output::new(record, around),
+            labels: Output::new(labels, around),
+            positions: Output::new(positions, around),
+            names: Output::new(names, around),
+        }
     }
 
     fn slices(&mut self) -> Numbered<'_> {
-        self.0.each_mut().map(Output::slice)
+        Numbered {
+            record: self.record.slice(),
+            labels: self.labels.slice(),
+            positions: self.positions.slice(),
+            names: self.names.slice(),
+        }
     }
 
-    /// Whether all but the first `written` entries of the slices, and all
-    /// around them, are as they were.
-    fn are_clean_after(&self, written: [usize; 3]) -> bool {
-        let mut outputs = self.0.iter().zip(written);
-        outputs.all(|(output, written)| output.is_clean_after(written))
+    /// Whether all but the first `length` bytes of the record and the first
+    /// `n` entries of the other slices, and all around them, are as they were.
+    fn are_clean_after(&self, length: usize, n: usize) -> bool {
+        self.record.is_clean_after(length)
+            && self.labels.is_clean_after(n)
+            && self.positions.is_clean_after(n)
+            && self.names.is_clean_after(n)
     }
 }
 
 impl fmt::Display for Outputs {
     fn fmt(&self, f: &mut fmt::Formatter<'_>) -> fmt::Result {
-        let [record, labels, positions] = &self.0;
-        write!(f, "record {record}, labels {labels}, positions {positions}")
+        write!(f, "record {}, labels {}", self.record, self.labels)?;
+        write!(f, ", positions {}, names {}", self.positions, self.names)
     }
 }
 
@@ -129,15 +161,13 @@ fn agreed(given: &GivenRooms, capacities: Capacities, around: Surroundings) -> A
             reference::fast::rooms_in(rooms, outputs.slices()).map_err(number)
         }),
         library: Outcome::of(&handed, outputs(), around, |rooms, outputs| {
-            let [record, labels, positions] = outputs.slices();
-            let answer = nenturxo::rooms_in(rooms, record, labels, positions);
-            answer.map_err(|refusal| refusal.number())
+            into_slices(rooms, outputs.slices()).map_err(|refusal| refusal.number())
         }),
     };
-    let n = rooms.len();
+    let (length, n) = answer.map_or((0, 0), |length| (length, rooms.len()));
     outcomes.agree(
         format_args!("list {given}, capacities {capacities:?}"),
-        |outputs| outputs.are_clean_after(answer.map_or([0; 3], |length| [length, n, n])),
+        |outputs| outputs.are_clean_after(length, n),
     );
     answer
 }

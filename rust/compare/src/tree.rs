@@ -1,7 +1,7 @@
 //! The comparison of one case of "Tree".
 
 use crate::given::GivenTree;
-use crate::lent::hex;
+use crate::lent::shown;
 use crate::one_slice::Versions;
 use crate::outcome::{fitting, Answer};
 use crate::tally::Tally;
@@ -46,8 +46,8 @@ impl Tally {
     pub fn expect_tree(&mut self, record: &[u8], tree: &[u8]) {
         let given = GivenTree::new(record);
         // That the library wrote the same bytes is compared below.
-        let bytes = given.answer.as_deref().map(hex);
-        assert_eq!(bytes, Ok(hex(tree)), "tree of {given}");
+        let bytes = given.answer.as_deref().map(shown);
+        assert_eq!(bytes, Ok(shown(tree)), "tree of {given}");
         for capacity in [tree.len(), tree.len() + 3, tree.len() - 1] {
             self.expect_tree_length(&given, tree.len(), capacity);
         }

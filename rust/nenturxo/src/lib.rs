@@ -68,60 +68,54 @@ pub fn labels_in(labels: &[u8], record: &mut [u8]) -> Result<usize, Refusal> {
     result(sys::labels_in(labels, record))
 }
 
-/// The output slices for rooms, one for each of the four numbers of a room.
-#[derive(Debug)]
-pub struct Corners<'a> {
-    /// Where the left edges of the rooms are, by position.
-    pub left: &'a mut [u16],
-    /// Where their bottom edges are.
-    pub bottom: &'a mut [u16],
-    /// Where their right edges are.
-    pub right: &'a mut [u16],
-    /// Where their top edges are.
-    pub top: &'a mut [u16],
-}
-
 /// Record in: writes the label of every room, and the room itself in the grid
-/// drawing, by position to the fronts of the five slices, and gives the number
-/// of rooms. The rest of each slice keeps its entries.
+/// drawing, by position to the fronts of `labels` and `rooms`, and gives the
+/// number of rooms. The rest of each slice keeps its entries.
 ///
-/// The outline of the drawing is 0 to n both ways, and y grows upward.
+/// The outline of the drawing is 0 to n both ways, and y grows upward. The
+/// record holds no names, so all rooms have name 0.
 ///
 /// ```
-/// use nenturxo::{record_in, Corners};
+/// use nenturxo::{record_in, Room};
 ///
 /// let mut labels = [0; 5];
-/// let [mut left, mut bottom, mut right, mut top] = [[0; 5]; 4];
-/// let corners = Corners {
-///     left: &mut left,
-///     bottom: &mut bottom,
-///     right: &mut right,
-///     top: &mut top,
-/// };
-/// assert_eq!(record_in(&[0x05, 0x31, 0x70], &mut labels, corners)?, 5);
+/// let mut rooms = [Room::default(); 5];
+/// assert_eq!(record_in(&[0x05, 0x31, 0x70], &mut labels, &mut rooms)?, 5);
 /// assert_eq!(labels, [4, 1, 3, 5, 2]);
-/// assert_eq!(left, [0, 0, 2, 3, 2]);
-/// assert_eq!(bottom, [0, 1, 1, 0, 4]);
-/// assert_eq!(right, [3, 2, 3, 5, 5]);
-/// assert_eq!(top, [1, 5, 4, 4, 5]);
+/// assert_eq!(rooms[2], Room { left: 2, bottom: 1, right: 3, top: 4, name: 0 });
+/// # Ok::<(), nenturxo::Refusal>(())
+/// ```
+///
+/// The rooms can be handed to [`rooms_in`] as they are, which gives the record
+/// back:
+///
+/// ```
+/// use nenturxo::{record_in, rooms_in, Room, RECORD_CAPACITY};
+///
+/// let record = [0x05, 0x31, 0x70];
+/// let mut drawn = [Room::default(); 5];
+/// record_in(&record, &mut [0; 5], &mut drawn)?;
+///
+/// let mut again = [0; RECORD_CAPACITY];
+/// let [mut labels, mut positions] = [[0; 5]; 2];
+/// let mut names = [0; 5];
+/// let length = rooms_in(&drawn, &mut again, &mut labels, &mut positions, &mut names)?;
+/// assert_eq!(again[..length], record);
+/// assert_eq!(labels, [4, 1, 3, 5, 2]);
+/// assert_eq!(positions, [1, 2, 3, 4, 5]);
+/// assert_eq!(names, [0; 5]);
 /// # Ok::<(), nenturxo::Refusal>(())
 /// ```
 ///
 /// # Errors
 ///
-/// The first of these that holds, and all five slices are as they were:
+/// The first of these that holds, and both slices are as they were:
 /// [9](Refusal::NO_KIND), [10](Refusal::BODY_SHORT),
 /// [11](Refusal::BYTES_AFTER), [14](Refusal::SPARE_BIT),
 /// [12](Refusal::RUN_MISSING), [13](Refusal::RUNS_LEFT),
 /// [15](Refusal::SLICE_SHORT).
-pub fn record_in(record: &[u8], labels: &mut [u8], corners: Corners<'_>) -> Result<usize, Refusal> {
-    let Corners {
-        left,
-        bottom,
-        right,
-        top,
-    } = corners;
-    result(sys::record_in(record, labels, [left, bottom, right, top]))
+pub fn record_in(record: &[u8], labels: &mut [u8], rooms: &mut [Room]) -> Result<usize, Refusal> {
+    result(sys::record_in(record, labels, rooms))
 }
 
 /// The question: how the room at position `first` of a record stands to the
@@ -179,44 +173,75 @@ pub fn question(record: &[u8], first: u8, second: u8) -> Result<(Relation, bool)
 }
 
 /// Rooms in: writes the record of a list of rooms to the front of `record`,
-/// and the label and the position of each room in list order to the fronts of
-/// `labels` and `positions`, and gives the record's length. The rest of each
-/// slice keeps its entries.
+/// the label and the position of each room in list order to the fronts of
+/// `labels` and `positions`, and the names of the rooms by position to the
+/// front of `names`, and gives the record's length. The rest of each slice
+/// keeps its entries.
 ///
 /// The rooms may stand in any order, and the outline of the plan anywhere.
-/// Two plans have the same record exactly when they are equivalent.
+/// Two plans have the same record exactly when they are equivalent, which
+/// their names have no part in.
 ///
 /// ```
 /// use nenturxo::{rooms_in, Refusal, Room, RECORD_CAPACITY};
 ///
-/// let room = |left, bottom, right, top| Room { left, bottom, right, top };
+/// let room = |left, bottom, right, top| Room { left, bottom, right, top, name: 0 };
 /// let side_by_side = [room(1, 0, 2, 1), room(0, 0, 1, 1)];
 /// let mut record = [0; RECORD_CAPACITY];
 /// let [mut labels, mut positions] = [[0; 2]; 2];
-/// let length = rooms_in(&side_by_side, &mut record, &mut labels, &mut positions)?;
+/// let mut names = [0; 2];
+/// let length = rooms_in(&side_by_side, &mut record, &mut labels, &mut positions, &mut names)?;
 /// assert_eq!(record[..length], [0x02, 0x40]);
 /// assert_eq!(labels, [2, 1]);
 /// assert_eq!(positions, [2, 1]);
 ///
 /// let apart = [room(0, 0, 1, 1), room(2, 0, 3, 1)];
-/// let answer = rooms_in(&apart, &mut record, &mut labels, &mut positions);
+/// let answer = rooms_in(&apart, &mut record, &mut labels, &mut positions, &mut names);
 /// assert_eq!(answer, Err(Refusal::OPEN_SQUARE));
+/// # Ok::<(), Refusal>(())
+/// ```
+///
+/// Labels and positions come in list order, so that each goes with the room
+/// handed in at its place; names come by position, so that each goes with the
+/// room that [`record_in`] draws at its place:
+///
+/// ```
+/// use nenturxo::{rooms_in, Refusal, Room};
+///
+/// let named = |left, name| Room { left, bottom: 0, right: left + 1, top: 1, name };
+/// // From left to right they are named 30, 10 and 20.
+/// let row = [named(1, 10), named(2, 20), named(0, 30)];
+/// let (mut record, mut names) = ([0; 2], [0; 3]);
+/// let [mut labels, mut positions] = [[0; 3]; 2];
+/// rooms_in(&row, &mut record, &mut labels, &mut positions, &mut names)?;
+/// assert_eq!(positions, [2, 3, 1]);
+/// assert_eq!(names, [30, 10, 20]);
+///
+/// // Any number of rooms may be unnamed, but no two may have another name.
+/// let row = [named(1, 0), named(2, 20), named(0, 0)];
+/// rooms_in(&row, &mut record, &mut labels, &mut positions, &mut names)?;
+/// assert_eq!(names, [0, 0, 20]);
+/// let row = [named(1, 20), named(2, 20), named(0, 0)];
+/// let answer = rooms_in(&row, &mut record, &mut labels, &mut positions, &mut names);
+/// assert_eq!(answer, Err(Refusal::NAME_TWICE));
 /// # Ok::<(), Refusal>(())
 /// ```
 ///
 /// # Errors
 ///
-/// The first of these that holds, and all three slices are as they were:
+/// The first of these that holds, and all four slices are as they were:
 /// [1](Refusal::LIST_LENGTH), [2](Refusal::EMPTY_ROOM),
 /// [3](Refusal::SHARED_SQUARE), [4](Refusal::OPEN_SQUARE),
-/// [5](Refusal::FOUR_ROOMS_MEET), [15](Refusal::SLICE_SHORT).
+/// [5](Refusal::FOUR_ROOMS_MEET), [20](Refusal::NAME_TWICE),
+/// [15](Refusal::SLICE_SHORT).
 pub fn rooms_in(
     rooms: &[Room],
     record: &mut [u8],
     labels: &mut [u8],
     positions: &mut [u8],
+    names: &mut [u16],
 ) -> Result<usize, Refusal> {
-    result(sys::rooms_in(rooms, record, labels, positions))
+    result(sys::rooms_in(rooms, record, labels, positions, names))
 }
 
 /// Tidy: writes the tidy text of a label list, given as text, to the front of

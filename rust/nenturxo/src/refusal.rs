@@ -58,6 +58,8 @@ impl Refusal {
     pub const TEXT_FORM: Self = Self(18);
     /// 19: the plan is not slicing
     pub const NOT_SLICING: Self = Self(19);
+    /// 20: one nonzero name on two rooms
+    pub const NAME_TWICE: Self = Self(20);
 
     /// The refusal that a code below 0 stands for, be it long or not. A
     /// refusal's number is small.
@@ -94,6 +96,7 @@ impl Refusal {
             Self::POSITIONS_EQUAL => "the two asked positions equal",
             Self::TEXT_FORM => "text breaks the form or is longer than 4,096 bytes",
             Self::NOT_SLICING => "the plan is not slicing",
+            Self::NAME_TWICE => "one nonzero name on two rooms",
             // The library has no other numbers.
             _ => "not in the table",
         }

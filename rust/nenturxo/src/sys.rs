@@ -25,14 +25,8 @@ mod c {
             n: usize,
             labels: *mut u8,
             labels_capacity: usize,
-            left: *mut u16,
-            left_capacity: usize,
-            bottom: *mut u16,
-            bottom_capacity: usize,
-            right: *mut u16,
-            right_capacity: usize,
-            top: *mut u16,
-            top_capacity: usize,
+            rooms: *mut Room,
+            rooms_capacity: usize,
         ) -> Code;
 
         pub fn nenturxo_question(record: *const u8, n: usize, first: u8, second: u8) -> Code;
@@ -46,6 +40,8 @@ mod c {
             labels_capacity: usize,
             positions: *mut u8,
             positions_capacity: usize,
+            names: *mut u16,
+            names_capacity: usize,
         ) -> Code;
 
         pub fn nenturxo_tidy(text: *const u8, n: usize, tidy: *mut u8, capacity: usize) -> Code;
@@ -71,27 +67,21 @@ pub fn labels_in(labels: &[u8], record: &mut [u8]) -> Code {
     }
 }
 
-/// `nenturxo_record_in` on six slices: the record, the labels, and the rooms'
-/// left, bottom, right and top edges.
-pub fn record_in(record: &[u8], labels: &mut [u8], corners: [&mut [u16]; 4]) -> Code {
-    let [left, bottom, right, top] = corners;
-    // SAFETY: every pointer is good for as many elements as the length beside
-    // it says, all but the first for writing too, and as all slices but the
-    // first are borrowed mutably no two overlap. The call keeps no pointer.
+/// `nenturxo_record_in` on three slices.
+pub fn record_in(record: &[u8], labels: &mut [u8], rooms: &mut [Room]) -> Code {
+    // SAFETY: a `Room` is laid out as the C interface says, five unsigned
+    // 16-bit numbers in this order, and any five are one. Every pointer is
+    // good for as many elements as the length beside it says, all but the
+    // first for writing too, and as all slices but the first are borrowed
+    // mutably no two overlap. The call keeps no pointer.
     unsafe {
         c::nenturxo_record_in(
             record.as_ptr(),
             record.len(),
             labels.as_mut_ptr(),
             labels.len(),
-            left.as_mut_ptr(),
-            left.len(),
-            bottom.as_mut_ptr(),
-            bottom.len(),
-            right.as_mut_ptr(),
-            right.len(),
-            top.as_mut_ptr(),
-            top.len(),
+            rooms.as_mut_ptr(),
+            rooms.len(),
         )
     }
 }
@@ -103,14 +93,15 @@ pub fn question(record: &[u8], first: u8, second: u8) -> Code {
     unsafe { c::nenturxo_question(record.as_ptr(), record.len(), first, second) }
 }
 
-/// `nenturxo_rooms_in` on four slices.
+/// `nenturxo_rooms_in` on five slices.
 pub fn rooms_in(
     rooms: &[Room],
     record: &mut [u8],
     labels: &mut [u8],
     positions: &mut [u8],
+    names: &mut [u16],
 ) -> Code {
-    // SAFETY: a `Room` is laid out as the C interface says, four unsigned
+    // SAFETY: a `Room` is laid out as the C interface says, five unsigned
     // 16-bit numbers in this order. Every pointer is good for as many elements
     // as the length beside it says, all but the first for writing too, and as
     // all slices but the first are borrowed mutably no two overlap. The call
@@ -125,6 +116,8 @@ pub fn rooms_in(
             labels.len(),
             positions.as_mut_ptr(),
             positions.len(),
+            names.as_mut_ptr(),
+            names.len(),
         )
     }
 }

@@ -5,6 +5,7 @@
 
 pub mod asked;
 pub mod barred;
+pub mod names;
 mod random;
 pub mod slicing;
 mod small;
@@ -17,10 +18,22 @@ pub use small::{
     baxter_lists, baxter_lists_up_to, each_permutation, every_code, every_list, BAXTER_NUMBERS,
 };
 
-use crate::Room;
+use crate::{Numbering, Room};
 
-/// The rooms with these corners: left, bottom, right, top.
+/// The unnamed rooms with these corners: left, bottom, right, top.
 #[must_use]
 pub fn rooms(corners: &[[u16; 4]]) -> Vec<Room> {
     corners.iter().copied().map(Room::from).collect()
+}
+
+/// Lists of these lengths for "Rooms in" to write to: for the record, the
+/// labels, the positions and the names. No small plan has what is in them.
+#[must_use]
+pub fn unwritten([record, labels, positions, names]: [usize; 4]) -> Numbering {
+    Numbering {
+        record: vec![0xa5; record],
+        labels: vec![0xa5; labels],
+        positions: vec![0xa5; positions],
+        names: vec![0xa5a5; names],
+    }
 }

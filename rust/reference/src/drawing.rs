@@ -1,6 +1,7 @@
 //! "The grid drawing" of the sheet.
 
-/// A room: four unsigned 16-bit numbers, y grows upward.
+/// A room: four unsigned 16-bit numbers, y grows upward, and by M-106 "a
+/// 16-bit name beside its four corners".
 #[derive(Clone, Copy, Debug, PartialEq, Eq, Hash)]
 pub struct Room {
     /// Where its left edge is.
@@ -11,9 +12,11 @@ pub struct Room {
     pub right: u16,
     /// Where its top edge is.
     pub top: u16,
+    /// Its name: "Name 0 means unnamed and may occur often."
+    pub name: u16,
 }
 
-/// The room with these corners: left, bottom, right, top.
+/// The unnamed room with these corners: left, bottom, right, top.
 impl From<[u16; 4]> for Room {
     fn from([left, bottom, right, top]: [u16; 4]) -> Self {
         Self {
@@ -21,6 +24,7 @@ impl From<[u16; 4]> for Room {
             bottom,
             right,
             top,
+            name: 0,
         }
     }
 }
@@ -51,6 +55,8 @@ fn room(labels: &[u8], i: u16) -> Room {
         right: first_later(&larger).map_or(n, |j| j - 1),
         // the first later position with a smaller label, less 1; n if none
         top: first_later(&smaller).map_or(n, |j| j - 1),
+        // "a drawing made from a record has name 0 in all rooms" (M-106)
+        name: 0,
     }
 }
 

@@ -2,7 +2,7 @@
 //!
 //! This is the separately written version that the proved library is held to.
 //! It is meant to be believed by reading: each function is one sentence of
-//! the sheet, or of the requests M-100 to M-105, and says which. What is fast
+//! the sheet, or of the requests M-100 to M-106, and says which. What is fast
 //! lives apart, in [`fast`], and is itself held to the definitions. What tests
 //! are made of is in [`cases`].
 //!
@@ -46,7 +46,7 @@ pub use drawing::{drawing, Room};
 pub use edge::{Edge, Line};
 pub use labels::labels_in;
 pub use pattern::{pattern, Condition, Pattern};
-pub use plan::{plan_of, record_in, Corners, Plan};
+pub use plan::{plan_of, record_in, Plan};
 pub use planlist::planlist;
 pub use question::{question, Questions};
 pub use record::{record_of, triples_in};

@@ -25,45 +25,32 @@ pub fn plan_of(record: &[u8]) -> Result<Plan, Refusal> {
     Ok(Plan { labels, rooms })
 }
 
-/// The output slices for rooms: their left, bottom, right and top edges, by
-/// position.
-pub type Corners<'a> = [&'a mut [u16]; 4];
-
 /// Record in: writes the labels and the rooms by position to the front of the
-/// five slices and gives the number of rooms, n.
+/// two slices and gives the number of rooms, n.
 ///
 /// Entries after the first n keep their values.
 ///
 /// # Errors
 ///
-/// The first cause found in the order 9, 10, 11, 14, 12, 13, 15; all five
-/// slices are then as they were.
-pub fn record_in(record: &[u8], labels: &mut [u8], corners: Corners<'_>) -> Result<usize, Refusal> {
-    plan_of(record)?.write(labels, corners)
+/// The first cause found in the order 9, 10, 11, 14, 12, 13, 15; both slices
+/// are then as they were.
+pub fn record_in(record: &[u8], labels: &mut [u8], rooms: &mut [Room]) -> Result<usize, Refusal> {
+    plan_of(record)?.write(labels, rooms)
 }
 
 impl Plan {
-    /// Writes the labels and the rooms to the front of the five slices and
+    /// Writes the labels and the rooms to the front of the two slices and
     /// gives the number of rooms.
     ///
     /// # Errors
     ///
-    /// 15 if one of the slices is too short; all five are then as they were.
-    pub fn write(&self, labels: &mut [u8], corners: Corners<'_>) -> Result<usize, Refusal> {
+    /// 15 if one of the slices is too short; both are then as they were.
+    pub fn write(&self, labels: &mut [u8], rooms: &mut [Room]) -> Result<usize, Refusal> {
         let n = self.labels.len();
-        let [left, bottom, right, top] = corners;
         let labels = front(labels, n)?;
-        let left = front(left, n)?;
-        let bottom = front(bottom, n)?;
-        let right = front(right, n)?;
-        let top = front(top, n)?;
+        let rooms = front(rooms, n)?;
         labels.copy_from_slice(&self.labels);
-        for (at, room) in self.rooms.iter().enumerate() {
-            left[at] = room.left;
-            bottom[at] = room.bottom;
-            right[at] = room.right;
-            top[at] = room.top;
-        }
+        rooms.copy_from_slice(&self.rooms);
         Ok(n)
     }
 }

@@ -23,6 +23,7 @@ pub fn planlist(input: &[u8]) -> String {
             bottom,
             right,
             top,
+            ..
         } = room;
         text += &format!("{position} {label} {left} {bottom} {right} {top}\n");
     }

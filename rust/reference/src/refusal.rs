@@ -1,4 +1,5 @@
-//! The sheet's table of refusals, with the numbers that M-100 and M-103 add.
+//! The sheet's table of refusals, with the numbers that M-100, M-103 and M-106
+//! add.
 
 use std::fmt;
 
@@ -44,11 +45,13 @@ pub enum Refusal {
     TextForm = 18,
     /// 19: the plan is not slicing
     NotSlicing = 19,
+    /// 20: one nonzero name on two rooms
+    NameTwice = 20,
 }
 
 impl Refusal {
     /// Every refusal, in the order of the table.
-    pub const ALL: [Self; 19] = [
+    pub const ALL: [Self; 20] = [
         Self::ListLength,
         Self::EmptyRoom,
         Self::SharedSquare,
@@ -68,15 +71,18 @@ impl Refusal {
         Self::PositionsEqual,
         Self::TextForm,
         Self::NotSlicing,
+        Self::NameTwice,
     ];
 
-    /// What a room list is refused with, in the sheet's order, before 15.
-    pub const OF_ROOMS: [Self; 5] = [
+    /// What a room list is refused with, in the sheet's order with that of
+    /// M-106, before 15.
+    pub const OF_ROOMS: [Self; 6] = [
         Self::ListLength,
         Self::EmptyRoom,
         Self::SharedSquare,
         Self::OpenSquare,
         Self::FourRoomsMeet,
+        Self::NameTwice,
     ];
 
     /// What a label list is refused with, in the sheet's order, before 15.
@@ -152,6 +158,7 @@ impl Refusal {
             Self::PositionsEqual => "the two asked positions equal",
             Self::TextForm => "text breaks the form or is longer than 4,096 bytes",
             Self::NotSlicing => "the plan is not slicing",
+            Self::NameTwice => "one nonzero name on two rooms",
         }
     }
 }
@@ -169,15 +176,15 @@ mod tests {
     use super::Refusal;
 
     #[test]
-    fn numbers_are_1_to_19_in_the_order_of_the_table() {
+    fn numbers_are_1_to_20_in_the_order_of_the_table() {
         let numbers: Vec<u8> = Refusal::ALL.iter().map(|r| r.number()).collect();
-        assert_eq!(numbers, (1..=19).collect::<Vec<u8>>());
+        assert_eq!(numbers, (1..=20).collect::<Vec<u8>>());
     }
 
     #[test]
     fn the_order_is_that_of_the_sheet() {
         let numbers = |order: &[Refusal]| order.iter().map(|r| r.number()).collect::<Vec<u8>>();
-        assert_eq!(numbers(&Refusal::OF_ROOMS), [1, 2, 3, 4, 5]);
+        assert_eq!(numbers(&Refusal::OF_ROOMS), [1, 2, 3, 4, 5, 20]);
         assert_eq!(numbers(&Refusal::OF_LABELS), [1, 6, 7, 8]);
         assert_eq!(numbers(&Refusal::OF_PATTERNS), [1, 6, 7]);
         assert_eq!(numbers(&Refusal::OF_RECORDS), [9, 10, 11, 14, 12, 13]);

@@ -20,7 +20,7 @@ const SHORT: usize = 40;
 /// Compares a record, and the same record with damage.
 pub fn compare_some(tally: &mut Tally, random: &mut Random) {
     for given in some_records(random).map(GivenRecord::new) {
-        let needed = [usize::from(kind(&given.input)); 5];
+        let needed = [usize::from(kind(&given.input)); 2];
         let _ = tally.record_in(&given, capacities(needed, random));
     }
 }

@@ -4,6 +4,7 @@ use crate::size::{by_definitions, capacities, some_count, some_walk};
 use compare::floorplan::some_box;
 use compare::room_damage::{are_suited, change_a_corner, RoomDamage};
 use compare::{Floorplan, GivenRooms, Tally};
+use reference::cases::names::{named, put_one_twice};
 use reference::cases::Random;
 use reference::{Refusal, Room};
 
@@ -37,7 +38,7 @@ fn compare(tally: &mut Tally, given: &GivenRooms, random: &mut Random) {
     let _ = tally.rooms_in(given, capacities(given.needed(), random));
 }
 
-/// A floorplan: a drawing or a nested plan, stretched, slid and shuffled.
+/// A floorplan: a drawing or a nested plan, stretched, slid, named and shuffled.
 pub fn some_plan(random: &mut Random) -> Floorplan {
     let mut plan = match random.below(4) {
         0 => {
@@ -52,7 +53,7 @@ pub fn some_plan(random: &mut Random) -> Floorplan {
     if random.below(2) == 0 {
         plan.slide(4, random);
     }
-    plan.shuffle(random);
+    plan.name_and_shuffle(random);
     plan
 }
 
@@ -75,6 +76,7 @@ fn damaged(plan: &Floorplan, random: &mut Random) -> Vec<Room> {
         }
         10 | 11 => return two_columns(random),
         12 => return any_rooms(random),
+        13 if rooms.len() > 1 => put_one_twice(&mut rooms, random),
         _ if are_suited(&rooms) => return some_damage(random).rooms(plan, random),
         _ => change_a_corner(&mut rooms, random),
     }
@@ -96,11 +98,12 @@ fn moved(room: Room, random: &mut Random) -> Room {
         bottom: room.bottom.saturating_add_signed(up),
         right: room.right.saturating_add_signed(across),
         top: room.top.saturating_add_signed(up),
+        name: room.name,
     }
 }
 
-/// Two columns of rooms. They are a floorplan unless both are parted at the
-/// same height.
+/// Two columns of rooms with small names. They are a floorplan unless both are
+/// parted at the same height.
 fn two_columns(random: &mut Random) -> Vec<Room> {
     let height = random.pick(&[2, 5, 20, 1000, u16::MAX]);
     let mut rooms = Vec::new();
@@ -108,23 +111,23 @@ fn two_columns(random: &mut Random) -> Vec<Room> {
         let mut bottom = 0;
         while bottom < height {
             let top = bottom + 1 + random.below(usize::from(height - bottom)) as u16;
-            rooms.push(Room {
-                left,
-                bottom,
-                right,
-                top,
-            });
+            rooms.push(Room::from([left, bottom, right, top]));
             bottom = top;
         }
     }
     random.shuffle(&mut rooms);
-    rooms
+    // Up to so large a name that a small plan often has none twice.
+    let names: Vec<u16> = rooms.iter().map(|_| random.number(0, 40)).collect();
+    named(&rooms, &names)
 }
 
 /// A few rooms, or none, with any numbers or with small ones.
 fn any_rooms(random: &mut Random) -> Vec<Room> {
-    let end = random.pick(&[3, 5, 65_536]);
-    (0..random.below(7))
-        .map(|_| Room::from([(); 4].map(|()| random.below(end) as u16)))
-        .collect()
+    let (count, end) = (random.below(7), random.pick(&[3, 5, 65_536]));
+    let mut number = || random.below(end) as u16;
+    let mut room = || Room {
+        name: number(),
+        ..Room::from([number(), number(), number(), number()])
+    };
+    (0..count).map(|_| room()).collect()
 }

@@ -5,8 +5,7 @@ use lib.Dec.{eqb}
 use lib.ListN.{length}
 use Rattle.finite.specs.Search.{Some}
 use Rattle.checks.specs.CornerLists.{Flat}
-use Rattle.checks.specs.Marks.{Marks}
-use Rattle.checks.proofs.Scan.{marks-none, marks-more, marks-tell}
+use Rattle.finite.specs.Marks.{Marks, marks-none, marks-more, marks-tell}
 use Rattle.checks.proofs.Places.{corners, flat-tells}
 use borrow.Author.Needs.{needs}
 use Rattle.checks.proofs.flat.Statement.{statement}

@@ -3,7 +3,7 @@ use Prim.Native.Nat.{_≤_, _-_, zero-le}
 use native.Mathlib.Omega.{arith}
 use lib.ListN.{length}
 use Rattle.finite.specs.Search.{Some}
-use Rattle.checks.proofs.Scan.{none-yet, none-here, none-at-all}
+use Rattle.finite.specs.Marks.{none-yet, none-here, none-at-all}
 use Rattle.finite.specs.Decide.{told-true, told-false}
 use Rattle.checks.proofs.Places.{shares-earlier→overlap, overlap→shares-earlier}
 use Rattle.checks.specs.CornerLists.{SharesEarlier}

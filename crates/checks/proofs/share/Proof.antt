@@ -3,7 +3,7 @@
 use Prim.Native.Nat.{max}
 use native.Mathlib.Omega.{arith}
 use borrow.Author.Needs.{needs}
-use Rattle.checks.proofs.Scan.{marks-le, marks-both, marks-same}
+use Rattle.finite.specs.Marks.{marks-le, marks-both, marks-same}
 use Rattle.checks.proofs.share.Statement.{statement}
 use Rattle.checks.proofs.share.Tie as tie
 

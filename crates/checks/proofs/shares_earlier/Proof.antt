@@ -2,8 +2,7 @@
 use Prim.Native.Nat.{_≤_, _-_}
 use native.Mathlib.Omega.{arith}
 use Rattle.finite.specs.Search.{Some}
-use Rattle.checks.proofs.Scan.{marks-none, marks-more, marks-tell}
-use Rattle.checks.specs.Marks.{Marks}
+use Rattle.finite.specs.Marks.{Marks, marks-none, marks-more, marks-tell}
 use Rattle.rooms.specs.Causes.{ShareSquare}
 use Rattle.checks.proofs.Places.{corners, corners-wide-and-tall}
 use borrow.Author.Needs.{needs}

@@ -21,6 +21,7 @@ returns c = λ i. record {
   bottom = c .before .before .lowest2 .ensures i;
   right = c .before .highest .ensures i;
   top = c .highest2 .ensures i;
+  name = 0;
 }
 
 pub outline-spec : {M : Type 1} → statement M

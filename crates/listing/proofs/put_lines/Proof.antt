@@ -20,14 +20,14 @@ abbrev μ-loop : tie.MeasureT-loop
 
 loop-holds : tie.Need-loop-holds Inv-loop μ-loop
 loop-holds c =
-    let a = c .before .before .before .before .before .before .args in
+    let a = c .before .before .args in
     (no-lines (labelAt (a .labels .now)) (roomIn (a .left .now) (a .bottom .now) (a .right .now) (a .top .now)) (a .text .now) (a .start), omega arith, omega arith)
 
 shared-slice-read-t15 : tie.Need-shared-slice-read-t15 Inv-loop μ-loop
 shared-slice-read-t15 c = search needs
 
-room-at-requires : tie.Need-room-at-requires Inv-loop μ-loop
-room-at-requires c κs = search needs
+room-from-requires : tie.Need-room-from-requires Inv-loop μ-loop
+room-from-requires c κs = search needs
 
 add-i : tie.Need-add-i Inv-loop μ-loop
 add-i c = search needs
@@ -44,8 +44,8 @@ loop-less c = search needs
 loop-again : tie.Need-loop-again Inv-loop μ-loop
 loop-again c =
     let l = c .before .before .before .before .before .before .before .loop in
-    let a = c .before .before .before .before .before .before .before .before .before .before .before .before .before .before .args in
-    let room = c .before .before .before .before .room-at .ensures in
+    let a = c .before .before .before .before .before .before .before .before .before .before .args in
+    let room = c .before .before .before .before .room-from .ensures in
     let line = c .before .before .put-line .ensures in (
       one-more (labelAt (a .labels .now)) (roomIn (a .left .now) (a .bottom .now) (a .right .now) (a .top .now)) (l .i) room (l .inv .0) (line .0),
       omega arith,
@@ -58,7 +58,7 @@ same-length c = c .before .loop .inv .0 .size
 returns : tie.Need-returns Inv-loop μ-loop
 returns c =
     let l = c .before .loop in
-    let a = c .before .before .before .before .before .before .before .before .args in
+    let a = c .before .before .before .before .args in
     (all-lines (labelAt (a .labels .now)) (roomIn (a .left .now) (a .bottom .now) (a .right .now) (a .top .now)) (omega arith) (l .inv .0), omega arith)
 
 pub put-lines-spec : {M : Type 1} → statement M
@@ -69,7 +69,7 @@ put-lines-spec =
     μ-loop
     loop-holds
     shared-slice-read-t15
-    room-at-requires
+    room-from-requires
     add-i
     cast-t15
     put-line-requires

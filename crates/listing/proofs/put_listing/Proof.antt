@@ -30,7 +30,7 @@ same-length c = search needs
 returns : tie.Need-returns
 unfolding filled ℕ-discrete
 returns c =
-    let s = c .before .before .before .before .before .before .before .before .before .before .before .before .before .before .before .before in
+    let s = c .before .before .before .before .before .before .before .before .before .before .before .before in
     let a = s .args in
     let head = c .before .before .before .before .before .before .put-form .ensures in
     let lines = c .before .before .put-lines .ensures in

@@ -29,7 +29,7 @@ slice-aggregate-put-form-2 c = search needs
 
 put-form-requires : tie.Need-put-form-requires
 put-form-requires c κs =
-    let s = c .before .before .before .before .before .before .before .before .before .before .before .before .before .before .before .before .before .before .before .before .before in
+    let s = c .before .before .before .before .before .before .before .before .before .before .before .before .before .before .before .before .before in
     let first = c .before .before .before .before .before .before .before .before .before .before .before .before .before .put-head .ensures in
     let drawn = c .before .before .before .before .before .before .before .before .before .put-rooms .ensures in
     let lined = c .before .before .before .before .before .put-segments .ensures in
@@ -41,7 +41,7 @@ same-length c = search needs
 returns : tie.Need-returns
 unfolding filled ℕ-discrete
 returns c =
-    let s = c .before .before .before .before .before .before .before .before .before .before .before .before .before .before .before .before .before .before .before .before .before .before .before .before in
+    let s = c .before .before .before .before .before .before .before .before .before .before .before .before .before .before .before .before .before .before .before .before in
     let a = s .args in
     let first = c .before .before .before .before .before .before .before .before .before .before .before .before .before .before .before .before .put-head .ensures in
     let drawn = c .before .before .before .before .before .before .before .before .before .before .before .before .put-rooms .ensures in

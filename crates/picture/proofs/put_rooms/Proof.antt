@@ -19,14 +19,14 @@ abbrev μ-loop : tie.MeasureT-loop
 
 loop-holds : tie.Need-loop-holds Inv-loop μ-loop
 loop-holds c =
-    let a = c .before .before .before .before .before .before .args in
+    let a = c .before .before .args in
     (no-rooms (labelAt (a .labels .now)) (roomIn (a .left .now) (a .bottom .now) (a .right .now) (a .top .now)) (a .n) (a .text .now) (a .start), omega arith, omega arith)
 
 shared-slice-read-t15 : tie.Need-shared-slice-read-t15 Inv-loop μ-loop
 shared-slice-read-t15 c = search needs
 
-room-at-requires : tie.Need-room-at-requires Inv-loop μ-loop
-room-at-requires c κs = search needs
+room-from-requires : tie.Need-room-from-requires Inv-loop μ-loop
+room-from-requires c κs = search needs
 
 add-i : tie.Need-add-i Inv-loop μ-loop
 add-i c = search needs
@@ -37,8 +37,8 @@ cast-put-rectangle c = search needs
 put-rectangle-requires : tie.Need-put-rectangle-requires Inv-loop μ-loop
 put-rectangle-requires c κs =
     let l = c .before .before .before .before .loop in
-    let plan = c .before .before .before .before .before .before .before .before .before .before .before .pre .0 in
-    ((plan .places .few, rw (c .before .room-at .ensures) (plan .within (l .i) (omega arith))), search needs)
+    let plan = c .before .before .before .before .before .before .before .pre .0 in
+    ((plan .places .few, rw (c .before .room-from .ensures) (plan .within (l .i) (omega arith))), search needs)
 
 cast-put-names : tie.Need-cast-put-names Inv-loop μ-loop
 cast-put-names c = search needs
@@ -49,10 +49,10 @@ cast-t15 c = search needs
 put-names-requires : tie.Need-put-names-requires Inv-loop μ-loop
 put-names-requires c κs =
     let l = c .before .before .before .before .before .before .before .before .loop in
-    let s = c .before .before .before .before .before .before .before .before .before .before .before .before .before .before .before in
+    let s = c .before .before .before .before .before .before .before .before .before .before .before in
     let plan = s .pre .0 in
     let drawn = c .before .before .before .put-rectangle .ensures in
-    ((plan .places .few, rw (c .before .before .before .before .before .room-at .ensures) (plan .within (l .i) (omega arith))), omega (arith, s .pre .1, l .inv .0 .size, l .inv .2, drawn .0 .size, drawn .1))
+    ((plan .places .few, rw (c .before .before .before .before .before .room-from .ensures) (plan .within (l .i) (omega arith))), omega (arith, s .pre .1, l .inv .0 .size, l .inv .2, drawn .0 .size, drawn .1))
 
 loop-less : tie.Need-loop-less Inv-loop μ-loop
 loop-less c = search needs
@@ -60,10 +60,10 @@ loop-less c = search needs
 loop-again : tie.Need-loop-again Inv-loop μ-loop
 loop-again c =
     let l = c .before .before .before .before .before .before .before .before .before .before .before .loop in
-    let a = c .before .before .before .before .before .before .before .before .before .before .before .before .before .before .before .before .before .before .args in
+    let a = c .before .before .before .before .before .before .before .before .before .before .before .before .before .before .args in
     let drawn = c .before .before .before .before .before .before .put-rectangle .ensures in
     let named = c .before .before .put-names .ensures in
-    (one-room (labelAt (a .labels .now)) (roomIn (a .left .now) (a .bottom .now) (a .right .now) (a .top .now)) (a .n) (l .i) (c .before .before .before .before .before .before .before .before .room-at .ensures) (l .inv .0) (drawn .0) (named .0), omega arith, omega (arith, l .inv .2, drawn .1, named .1))
+    (one-room (labelAt (a .labels .now)) (roomIn (a .left .now) (a .bottom .now) (a .right .now) (a .top .now)) (a .n) (l .i) (c .before .before .before .before .before .before .before .before .room-from .ensures) (l .inv .0) (drawn .0) (named .0), omega arith, omega (arith, l .inv .2, drawn .1, named .1))
 
 same-length : tie.Need-same-length Inv-loop μ-loop
 same-length c = c .before .loop .inv .0 .size
@@ -71,7 +71,7 @@ same-length c = c .before .loop .inv .0 .size
 returns : tie.Need-returns Inv-loop μ-loop
 returns c =
     let l = c .before .loop in
-    let a = c .before .before .before .before .before .before .before .before .args in
+    let a = c .before .before .before .before .args in
     (all-rooms (labelAt (a .labels .now)) (roomIn (a .left .now) (a .bottom .now) (a .right .now) (a .top .now)) (a .n) (omega arith) (l .inv .0), omega (arith, l .inv .2))
 
 pub put-rooms-spec : {M : Type 1} → statement M
@@ -82,7 +82,7 @@ put-rooms-spec =
     μ-loop
     loop-holds
     shared-slice-read-t15
-    room-at-requires
+    room-from-requires
     add-i
     cast-put-rectangle
     put-rectangle-requires

@@ -20,7 +20,7 @@ abbrev μ-loop : tie.MeasureT-loop
 
 loop-holds : tie.Need-loop-holds Inv-loop μ-loop
 loop-holds c =
-    let a = c .before .before .before .before .before .before .args in
+    let a = c .before .before .args in
     (no-segments (labelAt (a .labels .now)) (roomIn (a .left .now) (a .bottom .now) (a .right .now) (a .top .now)) (a .n) (a .text .now) (a .start), omega arith, omega arith)
 
 add-loop : tie.Need-add-loop Inv-loop μ-loop
@@ -29,8 +29,8 @@ add-loop c = search needs
 shared-slice-read-t18 : tie.Need-shared-slice-read-t18 Inv-loop μ-loop
 shared-slice-read-t18 c = search needs
 
-room-at-requires : tie.Need-room-at-requires Inv-loop μ-loop
-room-at-requires c κs = search needs
+room-from-requires : tie.Need-room-from-requires Inv-loop μ-loop
+room-from-requires c κs = search needs
 
 add-k : tie.Need-add-k Inv-loop μ-loop
 add-k c = search needs
@@ -38,8 +38,8 @@ add-k c = search needs
 shared-slice-read-t18-2 : tie.Need-shared-slice-read-t18-2 Inv-loop μ-loop
 shared-slice-read-t18-2 c = search needs
 
-room-at-requires-2 : tie.Need-room-at-requires-2 Inv-loop μ-loop
-room-at-requires-2 c κs = search needs
+room-from-requires-2 : tie.Need-room-from-requires-2 Inv-loop μ-loop
+room-from-requires-2 c κs = search needs
 
 cast-put-segment : tie.Need-cast-put-segment Inv-loop μ-loop
 cast-put-segment c = search needs
@@ -50,10 +50,10 @@ cast-put-segment-2 c = search needs
 put-segment-requires : tie.Need-put-segment-requires Inv-loop μ-loop
 put-segment-requires c κs =
     let l = c .before .before .before .before .before .before .loop in
-    let n = c .before .before .before .before .before .before .before .before .before .before .before .before .before .args .n in
-    let plan = c .before .before .before .before .before .before .before .before .before .before .before .before .before .pre .0 in
-    let earlier : Within n (c .before .before .before .room-at .result) = rw (c .before .before .before .room-at .ensures) (plan .within (l .k) (omega arith)) in
-    let later : Within n (c .before .room-at2 .result) = rw (c .before .room-at2 .ensures) (plan .within (l .k + 1) (omega arith)) in
+    let n = c .before .before .before .before .before .before .before .before .before .args .n in
+    let plan = c .before .before .before .before .before .before .before .before .before .pre .0 in
+    let earlier : Within n (c .before .before .before .room-from .result) = rw (c .before .before .before .room-from .ensures) (plan .within (l .k) (omega arith)) in
+    let later : Within n (c .before .room-from2 .result) = rw (c .before .room-from2 .ensures) (plan .within (l .k + 1) (omega arith)) in
     ((plan .places .few, omega arith, earlier, later), search needs)
 
 loop-less : tie.Need-loop-less Inv-loop μ-loop
@@ -62,9 +62,9 @@ loop-less c = search needs
 loop-again : tie.Need-loop-again Inv-loop μ-loop
 loop-again c =
     let l = c .before .before .before .before .before .before .before .before .before .loop in
-    let a = c .before .before .before .before .before .before .before .before .before .before .before .before .before .before .before .before .args in
+    let a = c .before .before .before .before .before .before .before .before .before .before .before .before .args in
     let line = c .before .before .put-segment .ensures in
-    (one-segment (labelAt (a .labels .now)) (roomIn (a .left .now) (a .bottom .now) (a .right .now) (a .top .now)) (a .n) (l .k) (c .before .before .before .before .before .before .room-at .ensures) (c .before .before .before .before .room-at2 .ensures) (l .inv .0) (line .0), omega arith, omega (arith, l .inv .2, line .1))
+    (one-segment (labelAt (a .labels .now)) (roomIn (a .left .now) (a .bottom .now) (a .right .now) (a .top .now)) (a .n) (l .k) (c .before .before .before .before .before .before .room-from .ensures) (c .before .before .before .before .room-from2 .ensures) (l .inv .0) (line .0), omega arith, omega (arith, l .inv .2, line .1))
 
 same-length : tie.Need-same-length Inv-loop μ-loop
 same-length c = c .before .loop .inv .0 .size
@@ -72,7 +72,7 @@ same-length c = c .before .loop .inv .0 .size
 returns : tie.Need-returns Inv-loop μ-loop
 returns c =
     let l = c .before .loop in
-    let a = c .before .before .before .before .before .before .before .before .args in
+    let a = c .before .before .before .before .args in
     (all-segments (labelAt (a .labels .now)) (roomIn (a .left .now) (a .bottom .now) (a .right .now) (a .top .now)) (a .n) (omega arith) (l .inv .0), omega (arith, l .inv .2))
 
 pub put-segments-spec : {M : Type 1} → statement M
@@ -84,10 +84,10 @@ put-segments-spec =
     loop-holds
     add-loop
     shared-slice-read-t18
-    room-at-requires
+    room-from-requires
     add-k
     shared-slice-read-t18-2
-    room-at-requires-2
+    room-from-requires-2
     cast-put-segment
     cast-put-segment-2
     put-segment-requires

@@ -12,49 +12,34 @@ use Rattle.planlist.proofs.put_text.Statement.{statement}
 use Rattle.planlist.proofs.put_text.Tie as tie
 use Rattle.planlist.proofs.put_text.Reads as reads
 use Rattle.planlist.proofs.put_text.Lts as lts
-use Rattle.answers.proofs.record_in.Reads as record-in-reads
+use Rattle.answers.proofs.read_corners.Reads as read-corners-reads
 use Rattle.listing.proofs.put_listing.Reads as put-listing-reads
 use Rattle.text.proofs.put_refusal.Reads as put-refusal-reads
 
 -- what Record in answered and wrote
-abbrev After-record-in : Type 0
-After-record-in = lts.After-record-in (record-in-reads.Asked, record-in-reads.Learnt, put-refusal-reads.Asked, put-refusal-reads.Learnt, put-listing-reads.Asked, put-listing-reads.Learnt) reads.Pre reads.Post
+abbrev After-read-corners : Type 0
+After-read-corners = lts.After-read-corners (read-corners-reads.Asked, read-corners-reads.Learnt, put-refusal-reads.Asked, put-refusal-reads.Learnt, put-listing-reads.Asked, put-listing-reads.Learnt) reads.Pre reads.Post
 
-abbrev WrittenBy : After-record-in → RecordAnswer → Type 0
+abbrev WrittenBy : After-read-corners → RecordAnswer → Type 0
 WrittenBy e answer =
-    let last = e .record-in .last .1 in
-    Written (e .before .before .before .before .before .before .before .before .args .«record» .now) answer (last .0) (last .1 .0) (last .1 .1 .0) (last .1 .1 .1 .0) (last .1 .1 .1 .1 .0)
+    let last = e .read-corners .last .1 in
+    Written (e .before .before .before .before .before .before .before .before .args .«record» .now) answer (last .0) (last .1 .1 .0) (last .1 .1 .1 .0) (last .1 .1 .1 .1 .0) (last .1 .1 .1 .1 .1 .0)
 
-wrote : (e : After-record-in) → WrittenBy e (e .record-in .result)
-wrote e = let told = e .record-in .ensures in record {
+wrote : (e : After-read-corners) → WrittenBy e (e .read-corners .result)
+wrote e = let told = e .read-corners .ensures in record {
   byte = omega (arith, e .before .before .before .before .before .before .before .shared-slice-known .given 0);
   before = replicate 255 0;
-  answered = told .0 .answered;
-  few = told .1;
-  list = told .0 .labels-are;
-  lefts = told .0 .lefts-are;
-  bottoms = told .0 .bottoms-are;
-  rights = told .0 .rights-are;
-  tops = told .0 .tops-are;
+  answered = told .answered;
+  few = told .few;
+  list = told .labels-are;
+  rooms = told .corners-are;
 }
 
-slice-aggregate-record-in : tie.Need-slice-aggregate-record-in
-slice-aggregate-record-in c = search needs
+slice-aggregate-read-corners : tie.Need-slice-aggregate-read-corners
+slice-aggregate-read-corners c = search needs
 
-slice-aggregate-record-in-2 : tie.Need-slice-aggregate-record-in-2
-slice-aggregate-record-in-2 c = search needs
-
-slice-aggregate-record-in-3 : tie.Need-slice-aggregate-record-in-3
-slice-aggregate-record-in-3 c = search needs
-
-slice-aggregate-record-in-4 : tie.Need-slice-aggregate-record-in-4
-slice-aggregate-record-in-4 c = search needs
-
-slice-aggregate-record-in-5 : tie.Need-slice-aggregate-record-in-5
-slice-aggregate-record-in-5 c = search needs
-
-record-in-requires : tie.Need-record-in-requires
-record-in-requires c κs = search needs
+read-corners-requires : tie.Need-read-corners-requires
+read-corners-requires c κs = search needs
 
 enum-known-refusal : tie.Need-enum-known-refusal
 enum-known-refusal c = search needs
@@ -68,29 +53,13 @@ enum-known-n c = search needs
 slice-aggregate-put-listing : tie.Need-slice-aggregate-put-listing
 slice-aggregate-put-listing c = search needs
 
-slice-aggregate-put-listing-2 : tie.Need-slice-aggregate-put-listing-2
-slice-aggregate-put-listing-2 c = search needs
-
-slice-aggregate-put-listing-3 : tie.Need-slice-aggregate-put-listing-3
-slice-aggregate-put-listing-3 c = search needs
-
-slice-aggregate-put-listing-4 : tie.Need-slice-aggregate-put-listing-4
-slice-aggregate-put-listing-4 c = search needs
-
-slice-aggregate-put-listing-5 : tie.Need-slice-aggregate-put-listing-5
-slice-aggregate-put-listing-5 c = search needs
-
 put-listing-requires : tie.Need-put-listing-requires
 put-listing-requires c κs =
-    let e = c .before .before .before .before .before .before .before .before .before .before .before .before .before .before in
+    let e = c .before .before .before .before .before .before .before .before .before .before in
     let few = subst (WrittenBy e) (c .before .before .before .before .before .before .before .n .given .1) (wrote e) .few in (
       record {
         few = few;
         labels-length = omega arith;
-        left-length = omega arith;
-        bottom-length = omega arith;
-        right-length = omega arith;
-        top-length = omega arith;
       },
       search needs,
     )
@@ -102,36 +71,28 @@ returns : tie.Need-returns
 returns c =
     let line = c .before .before .put-refusal .ensures in
     let refusal = c .before .before .before .before .before .refusal .given in
-    put-whole (omega (arith, c .before .before .before .before .before .before .before .before .before .before .before .before .before .before .before .before .before .before .before .before .pre, line .1)) (refused-printed (wrote (c .before .before .before .before .before .before .before .before .before .before .before .before)) listing (refusal .0 .0) (refusal .1)) (line .0)
+    put-whole (omega (arith, c .before .before .before .before .before .before .before .before .before .before .before .before .before .before .before .before .pre, line .1)) (refused-printed (wrote (c .before .before .before .before .before .before .before .before)) listing (refusal .0 .0) (refusal .1)) (line .0)
 
 same-length-2 : tie.Need-same-length-2
 same-length-2 c = search needs
 
 returns-2 : tie.Need-returns-2
 returns-2 c =
-    let e = c .before .before .before .before .before .before .before .before .before .before .before .before .before .before .before .before .before in
+    let e = c .before .before .before .before .before .before .before .before .before .before .before .before .before in
     let w = subst (WrittenBy e) (c .before .before .before .before .before .before .before .before .before .before .n .given .1) (wrote e) in
     let all = c .before .before .put-listing .ensures in
-    put-whole (omega (arith, c .before .before .before .before .before .before .before .before .before .before .before .before .before .before .before .before .before .before .before .before .before .before .before .before .before .pre, all .1)) (read-printed w listing listing-local) (all .0)
+    put-whole (omega (arith, c .before .before .before .before .before .before .before .before .before .before .before .before .before .before .before .before .before .before .before .before .before .pre, all .1)) (read-printed w listing listing-local) (all .0)
 
 pub put-text-spec : {M : Type 1} → statement M
 put-text-spec =
     tie.close
     (tie.spec
-    slice-aggregate-record-in
-    slice-aggregate-record-in-2
-    slice-aggregate-record-in-3
-    slice-aggregate-record-in-4
-    slice-aggregate-record-in-5
-    record-in-requires
+    slice-aggregate-read-corners
+    read-corners-requires
     enum-known-refusal
     put-refusal-requires
     enum-known-n
     slice-aggregate-put-listing
-    slice-aggregate-put-listing-2
-    slice-aggregate-put-listing-3
-    slice-aggregate-put-listing-4
-    slice-aggregate-put-listing-5
     put-listing-requires
     same-length
     returns

@@ -14,14 +14,14 @@ use Rattle.plans.proofs.finish.Tie as tie
 
 returns : tie.Need-returns
 returns c =
-    let a = c .before .before .before .before .args in
-    refused (slices (a .«record» .now) (a .labels .now) (a .positions .now))
+    let a = c .before .before .before .before .before .args in
+    refused (slices (a .«record» .now) (a .labels .now) (a .positions .now) (a .names .now))
     (count (inl (omega (arith, length-table (copiedAt (a .all .now)) (a .n), c .if1 .taken))))
 
 returns-2 : tie.Need-returns-2
 returns-2 c =
-    let a = c .before .before .before .before .before .args in
-    refused (slices (a .«record» .now) (a .labels .now) (a .positions .now))
+    let a = c .before .before .before .before .before .before .args in
+    refused (slices (a .«record» .now) (a .labels .now) (a .positions .now) (a .names .now))
     (count (inr (omega (arith, length-table (copiedAt (a .all .now)) (a .n), c .if2 .taken))))
 
 slice-aggregate-decide : tie.Need-slice-aggregate-decide
@@ -38,21 +38,21 @@ slice-aggregate-decide-4 c = search needs
 
 decide-requires : tie.Need-decide-requires
 decide-requires c κs =
-    let s = c .before .before .before .before .before .before .before .before .before .before .before .before .before in
-    let few = c .before .before .before .before .before .before .before .before .if2 .left in (
-      (s .pre, omega (arith, c .before .before .before .before .before .before .before .before .before .if1 .left), omega (arith, few)),
+    let s = c .before .before .before .before .before .before .before .before .before .before .before .before .before .before .before in
+    let few = c .before .before .before .before .before .before .before .before .before .if2 .left in (
+      (s .pre, omega (arith, c .before .before .before .before .before .before .before .before .before .before .if1 .left), omega (arith, few)),
       (
         record {
           few = omega (arith, few);
           there-places =
-              omega (arith, c .before .before .before .before .before .before .before .if3 .taken);
+              omega (arith, c .before .before .before .before .before .before .before .before .if3 .taken);
           back-places =
-              omega (arith, c .before .before .before .before .before .before .before .if3 .taken);
+              omega (arith, c .before .before .before .before .before .before .before .before .if3 .taken);
           none-yet = refl;
         },
         (
-          omega (arith, c .before .before .before .before .before .before .before .if3 .taken),
-          omega (arith, c .before .before .before .before .before .before .before .if3 .taken),
+          omega (arith, c .before .before .before .before .before .before .before .before .if3 .taken),
+          omega (arith, c .before .before .before .before .before .before .before .before .if3 .taken),
         ),
       ),
     )
@@ -65,6 +65,9 @@ same-length-2 c = search needs
 
 same-length-3 : tie.Need-same-length-3
 same-length-3 c = search needs
+
+same-length-4 : tie.Need-same-length-4
+same-length-4 c = search needs
 
 returns-3 : tie.Need-returns-3
 returns-3 c = search needs
@@ -83,37 +86,40 @@ slice-aggregate-decide-8 c = search needs
 
 decide-requires-2 : tie.Need-decide-requires-2
 decide-requires-2 c κs =
-    let s = c .before .before .before .before .before .before .before .before .before .before .before .before .before .before in
-    let few = c .before .before .before .before .before .before .before .before .before .if2 .left in (
+    let s = c .before .before .before .before .before .before .before .before .before .before .before .before .before .before .before .before in
+    let few = c .before .before .before .before .before .before .before .before .before .before .if2 .left in (
       (
         s .pre,
-        omega (arith, c .before .before .before .before .before .before .before .before .before .before .if1 .left),
+        omega (arith, c .before .before .before .before .before .before .before .before .before .before .before .if1 .left),
         omega (arith, few),
       ),
       (
         record {
           few = omega (arith, few);
           there-places =
-              omega (arith, c .before .before .before .before .before .before .before .if4 .taken);
+              omega (arith, c .before .before .before .before .before .before .before .before .if4 .taken);
           back-places =
-              omega (arith, c .before .before .before .before .before .before .before .if4 .taken);
+              omega (arith, c .before .before .before .before .before .before .before .before .if4 .taken);
           none-yet = refl;
         },
         (
-          omega (arith, c .before .before .before .before .before .before .before .if4 .taken),
-          omega (arith, c .before .before .before .before .before .before .before .if4 .taken),
+          omega (arith, c .before .before .before .before .before .before .before .before .if4 .taken),
+          omega (arith, c .before .before .before .before .before .before .before .before .if4 .taken),
         ),
       ),
     )
-
-same-length-4 : tie.Need-same-length-4
-same-length-4 c = search needs
 
 same-length-5 : tie.Need-same-length-5
 same-length-5 c = search needs
 
 same-length-6 : tie.Need-same-length-6
 same-length-6 c = search needs
+
+same-length-7 : tie.Need-same-length-7
+same-length-7 c = search needs
+
+same-length-8 : tie.Need-same-length-8
+same-length-8 c = search needs
 
 returns-4 : tie.Need-returns-4
 returns-4 c = search needs
@@ -132,11 +138,11 @@ slice-aggregate-decide-12 c = search needs
 
 decide-requires-3 : tie.Need-decide-requires-3
 decide-requires-3 c κs =
-    let s = c .before .before .before .before .before .before .before .before .before .before .before .before .before .before in
-    let few = c .before .before .before .before .before .before .before .before .before .if2 .left in (
+    let s = c .before .before .before .before .before .before .before .before .before .before .before .before .before .before .before .before in
+    let few = c .before .before .before .before .before .before .before .before .before .before .if2 .left in (
       (
         s .pre,
-        omega (arith, c .before .before .before .before .before .before .before .before .before .before .if1 .left),
+        omega (arith, c .before .before .before .before .before .before .before .before .before .before .before .if1 .left),
         omega (arith, few),
       ),
       (
@@ -145,14 +151,17 @@ decide-requires-3 c κs =
       ),
     )
 
-same-length-7 : tie.Need-same-length-7
-same-length-7 c = search needs
-
-same-length-8 : tie.Need-same-length-8
-same-length-8 c = search needs
-
 same-length-9 : tie.Need-same-length-9
 same-length-9 c = search needs
+
+same-length-10 : tie.Need-same-length-10
+same-length-10 c = search needs
+
+same-length-11 : tie.Need-same-length-11
+same-length-11 c = search needs
+
+same-length-12 : tie.Need-same-length-12
+same-length-12 c = search needs
 
 returns-5 : tie.Need-returns-5
 returns-5 c = search needs
@@ -171,22 +180,25 @@ finish-spec =
     same-length
     same-length-2
     same-length-3
+    same-length-4
     returns-3
     slice-aggregate-decide-5
     slice-aggregate-decide-6
     slice-aggregate-decide-7
     slice-aggregate-decide-8
     decide-requires-2
-    same-length-4
     same-length-5
     same-length-6
+    same-length-7
+    same-length-8
     returns-4
     slice-aggregate-decide-9
     slice-aggregate-decide-10
     slice-aggregate-decide-11
     slice-aggregate-decide-12
     decide-requires-3
-    same-length-7
-    same-length-8
     same-length-9
+    same-length-10
+    same-length-11
+    same-length-12
     returns-5)

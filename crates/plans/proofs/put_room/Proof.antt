@@ -5,38 +5,47 @@ use borrow.Author.Tests.{lt-ltb, le-ltb}
 use Rattle.plans.proofs.put_room.Statement.{statement}
 use Rattle.plans.proofs.put_room.Tie as tie
 
-mul-corners : tie.Need-mul-corners
-mul-corners c = search needs
+mul-numbers : tie.Need-mul-numbers
+mul-numbers c = search needs
 
-element-write-corners : tie.Need-element-write-corners
-element-write-corners c = search needs
+element-write-numbers : tie.Need-element-write-numbers
+element-write-numbers c = search needs
 
-add-corners : tie.Need-add-corners
-add-corners c = search needs
+add-numbers : tie.Need-add-numbers
+add-numbers c = search needs
 
-mul-corners-2 : tie.Need-mul-corners-2
-mul-corners-2 c = search needs
+mul-numbers-2 : tie.Need-mul-numbers-2
+mul-numbers-2 c = search needs
 
-element-write-corners-2 : tie.Need-element-write-corners-2
-element-write-corners-2 c = search needs
+element-write-numbers-2 : tie.Need-element-write-numbers-2
+element-write-numbers-2 c = search needs
 
-add-corners-2 : tie.Need-add-corners-2
-add-corners-2 c = search needs
+add-numbers-2 : tie.Need-add-numbers-2
+add-numbers-2 c = search needs
 
-mul-corners-3 : tie.Need-mul-corners-3
-mul-corners-3 c = search needs
+mul-numbers-3 : tie.Need-mul-numbers-3
+mul-numbers-3 c = search needs
 
-element-write-corners-3 : tie.Need-element-write-corners-3
-element-write-corners-3 c = search needs
+element-write-numbers-3 : tie.Need-element-write-numbers-3
+element-write-numbers-3 c = search needs
 
-add-corners-3 : tie.Need-add-corners-3
-add-corners-3 c = search needs
+add-numbers-3 : tie.Need-add-numbers-3
+add-numbers-3 c = search needs
 
-mul-corners-4 : tie.Need-mul-corners-4
-mul-corners-4 c = search needs
+mul-numbers-4 : tie.Need-mul-numbers-4
+mul-numbers-4 c = search needs
 
-element-write-corners-4 : tie.Need-element-write-corners-4
-element-write-corners-4 c = search needs
+element-write-numbers-4 : tie.Need-element-write-numbers-4
+element-write-numbers-4 c = search needs
+
+add-numbers-4 : tie.Need-add-numbers-4
+add-numbers-4 c = search needs
+
+mul-numbers-5 : tie.Need-mul-numbers-5
+mul-numbers-5 c = search needs
+
+element-write-numbers-5 : tie.Need-element-write-numbers-5
+element-write-numbers-5 c = search needs
 
 returns : tie.Need-returns
 returns c = simp (lt-ltb _ _ (c .if1 .taken))
@@ -48,16 +57,19 @@ pub put-room-spec : {M : Type 1} → statement M
 put-room-spec =
     tie.close
     (tie.spec
-    mul-corners
-    element-write-corners
-    add-corners
-    mul-corners-2
-    element-write-corners-2
-    add-corners-2
-    mul-corners-3
-    element-write-corners-3
-    add-corners-3
-    mul-corners-4
-    element-write-corners-4
+    mul-numbers
+    element-write-numbers
+    add-numbers
+    mul-numbers-2
+    element-write-numbers-2
+    add-numbers-2
+    mul-numbers-3
+    element-write-numbers-3
+    add-numbers-3
+    mul-numbers-4
+    element-write-numbers-4
+    add-numbers-4
+    mul-numbers-5
+    element-write-numbers-5
     returns
     returns-2)

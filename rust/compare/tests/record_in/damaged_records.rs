@@ -78,7 +78,7 @@ fn a_kind_that_is_not_the_bodys() {
         let mut record = biased_list(n, random).record();
         for kind in 0..=255 {
             record[0] = kind;
-            let _ = tally.record_in(&GivenRecord::new(&record[..]), [255; 5]);
+            let _ = tally.record_in(&GivenRecord::new(&record[..]), [255; 2]);
         }
     });
     tally.expect_refused([Refusal::NoKind], [40]);

@@ -24,10 +24,10 @@ fn records_with_one_bit_or_one_triple_changed() {
         let mut record = walked.record();
         let place = random.between(1, record.len() - 1);
         record[place] ^= 1 << random.below(8);
-        let _ = tally.record_in(&GivenRecord::new(record), [n; 5]);
+        let _ = tally.record_in(&GivenRecord::new(record), [n; 2]);
 
         walked.triples[random.below(n - 1)] = random.pick(&TRIPLES);
-        let _ = tally.record_in(&GivenRecord::new(walked.record()), [n; 5]);
+        let _ = tally.record_in(&GivenRecord::new(walked.record()), [n; 2]);
     });
     tally.expect_often(100, &Refusal::OF_RECORDS[3..]);
     assert!(tally.accepted() > RECORDS / 10);
@@ -46,7 +46,7 @@ fn random_triples_and_random_bytes() {
             _ => &[TRIPLES[0], TRIPLES[1], TRIPLES[4], TRIPLES[5]],
         };
         let triples: Vec<_> = (1..kind).map(|_| random.pick(choices)).collect();
-        let capacities = [(); 5].map(|()| random.pick(&[0, 5, 12, 255, 300]));
+        let capacities = [(); 2].map(|()| random.pick(&[0, 5, 12, 255, 300]));
         let _ = tally.record_in(&GivenRecord::new(record_of(kind, &triples)), capacities);
 
         // Bytes of any number, and as many as the kind fixes.

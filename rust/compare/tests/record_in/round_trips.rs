@@ -1,7 +1,6 @@
 //! There and back through the library alone, without the definitions.
 
-use compare::record_slices::library_plan;
-use compare::{repeat, report};
+use compare::{repeat, report, LibraryPlan};
 use nenturxo::{labels_in, Refusal, RECORD_CAPACITY};
 use reference::cases::walk::list_in_turn;
 use reference::cases::{baxter_lists_up_to, each_permutation};
@@ -13,9 +12,9 @@ fn record_of(labels: &[u8]) -> Result<Vec<u8>, Refusal> {
     Ok(record[..length].to_vec())
 }
 
-/// The labels of a record.
+/// The labels of a record. Its rooms must give the record back too.
 fn labels_of(record: &[u8]) -> Result<Vec<u8>, Refusal> {
-    library_plan(record).map(|plan| plan.labels)
+    LibraryPlan::there_and_back(record).map(|plan| plan.labels)
 }
 
 #[test]

@@ -9,7 +9,7 @@ use reference::{record_of, Refusal, Room};
 /// The drawing of a record, once the library agrees with it.
 fn drawn(tally: &mut Tally, record: &[u8]) -> Vec<Room> {
     let given = GivenRecord::new(record);
-    let _ = tally.record_in(&given, [255; 5]);
+    let _ = tally.record_in(&given, [255; 2]);
     given.answer.expect("the record is accepted").rooms
 }
 

@@ -1,5 +1,5 @@
 //! Lists with damage: each refusal for its own cause, and in the order
-//! 1, 2, 3, 4, 5 where there are several.
+//! 1, 2, 3, 4, 5, 20 where there are several.
 
 use compare::room_damage::{change_a_corner, suited_plan, RoomDamage};
 use compare::{each_times, Floorplan, GivenRooms, Tally};
@@ -22,7 +22,7 @@ fn compare_damaged(
 ) {
     let damages = each_times(RoomDamage::all(), lists);
     let tally = Tally::of_rounds(name, seed, damages, compare);
-    let counts = [16, 8, 4, 2, 1].map(|combinations| combinations * 3 * lists);
+    let counts = [32, 16, 8, 4, 2, 1].map(|combinations| combinations * 3 * lists);
     tally.expect_refused(Refusal::OF_ROOMS, counts);
     assert_eq!(tally.accepted(), 2 * lists);
     tally.finish(RoomDamage::COUNT * 3 * lists);
@@ -51,7 +51,7 @@ fn every_damage_alone_and_with_every_other_in_long_lists() {
             let rooms = damage.rooms(&plan, random);
             tally.rooms(&GivenRooms::known(rooms, Err(refusal)));
         } else {
-            plan.shuffle(random);
+            plan.name_and_shuffle(random);
             tally.rooms(&plan.given());
         }
     });

@@ -2,12 +2,12 @@
 //! decided by trying all ways to pair their rooms off.
 
 use compare::rooms_in::library_numbering;
-use compare::{repeat, report, Floorplan};
+use compare::{of_library, repeat, report, Floorplan};
 use reference::cases::walk::random_list;
 use reference::cases::{baxter_lists, rooms, worked, Random};
 use reference::{equivalent, Room};
 
-/// The rooms of a drawing, moved and in another order.
+/// The rooms of a drawing, moved, with other names and in another order.
 fn moved(labels: &[u8], random: &mut Random) -> Vec<Room> {
     let mut plan = Floorplan::drawn(labels);
     plan.move_about(5, random);
@@ -16,7 +16,8 @@ fn moved(labels: &[u8], random: &mut Random) -> Vec<Room> {
 
 /// Compares two plans, and says whether they are equivalent.
 fn compare(a: &[Room], b: &[Room]) -> bool {
-    let [of_a, of_b] = [a, b].map(|rooms| library_numbering(rooms).map(|answer| answer.record));
+    let numbering = |rooms| library_numbering(&of_library::rooms(rooms));
+    let [of_a, of_b] = [a, b].map(|rooms| numbering(rooms).map(|answer| answer.record));
     assert!(of_a.is_ok() && of_b.is_ok(), "{a:?} and {b:?}");
     let same = of_a == of_b;
     assert_eq!(same, equivalent(a, b), "{a:?} and {b:?}");

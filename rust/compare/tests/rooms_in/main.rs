@@ -3,6 +3,7 @@
 mod damaged_lists;
 mod drawings;
 mod equivalence;
+mod names;
 mod nested_plans;
 mod round_trips;
 mod slices;

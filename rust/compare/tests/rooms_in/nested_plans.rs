@@ -4,14 +4,14 @@ use compare::floorplan::some_box;
 use compare::{Floorplan, Tally};
 use reference::cases::Random;
 
-/// A nested plan of `n` rooms, shuffled, and in some rounds slid.
+/// A nested plan of `n` rooms, named and shuffled, and in some rounds slid.
 fn some_plan(n: usize, round: usize, random: &mut Random) -> Floorplan {
     let outline = some_box(random);
     let mut plan = Floorplan::nested(n, outline, random);
     if round % 2 == 1 {
         plan.slide(20, random);
     }
-    plan.shuffle(random);
+    plan.name_and_shuffle(random);
     plan
 }
 

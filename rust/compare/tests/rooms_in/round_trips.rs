@@ -1,29 +1,30 @@
 //! There and back through the library alone, without the definitions.
 
-use compare::record_slices::library_plan;
 use compare::rooms_in::library_numbering;
-use compare::{repeat, report, Floorplan};
+use compare::{of_library, repeat, report, Floorplan, LibraryPlan};
 use reference::cases::walk::list_in_turn;
 use reference::Room;
 
 /// Takes rooms to their record, that to its drawing, and the drawing to its
-/// record again.
+/// record again; and then the same drawing with the names of the rooms.
 fn there_and_back(rooms: &[Room]) {
-    let numbering = library_numbering(rooms).expect("a floorplan is accepted");
-    let plan = library_plan(&numbering.record).expect("a record of rooms is accepted");
-    let again = library_numbering(&plan.rooms).expect("a drawing is accepted");
-    assert_eq!(again.record, numbering.record, "{rooms:?}");
+    let numbering = library_numbering(&of_library::rooms(rooms));
+    let numbering = numbering.expect("a floorplan is accepted");
+    let plan = LibraryPlan::there_and_back(&numbering.record);
+    let mut plan = plan.expect("a record of rooms is accepted");
 
-    // The drawing is by position.
-    assert_eq!(again.labels, plan.labels, "{rooms:?}");
-    let positions: Vec<u8> = (1..=u8::MAX).take(rooms.len()).collect();
-    assert_eq!(again.positions, positions, "{rooms:?}");
-
-    // Each room has the label of its position there.
-    for (label, position) in numbering.labels.iter().zip(&numbering.positions) {
+    // Each room has the label and the name of its position there.
+    let numbers = numbering.labels.iter().zip(&numbering.positions);
+    for (room, (label, position)) in rooms.iter().zip(numbers) {
         let place = usize::from(*position) - 1;
         assert_eq!(plan.labels[place], *label, "{rooms:?}");
+        assert_eq!(numbering.names[place], room.name, "{rooms:?}");
+        plan.rooms[place].name = room.name;
     }
+    // The drawing is by position, so its names come back as they stand.
+    let again = library_numbering(&plan.rooms).expect("a drawing is accepted");
+    assert_eq!(again.record, numbering.record, "{rooms:?}");
+    assert_eq!(again.names, numbering.names, "{rooms:?}");
 }
 
 #[test]
@@ -33,7 +34,7 @@ fn drawings_of_random_lists() {
         let n = random.between(1, 255);
         let mut plan = Floorplan::drawn(&list_in_turn(n, round, random).labels);
         plan.stretch(random);
-        plan.shuffle(random);
+        plan.name_and_shuffle(random);
         there_and_back(&plan.rooms());
     });
     report(format_args!("{PLANS} moved drawings came back"));
@@ -46,7 +47,7 @@ fn nested_plans() {
     repeat(152, 0..PLANS, |random, _| {
         let n = random.between(1, 255);
         let mut plan = Floorplan::nested(n, outline, random);
-        plan.shuffle(random);
+        plan.name_and_shuffle(random);
         there_and_back(&plan.rooms());
     });
     report(format_args!("{PLANS} nested plans came back"));

@@ -1,6 +1,7 @@
 //! Every list of small rooms that is short enough, and random ones.
 
 use compare::{GivenRooms, Tally};
+use reference::cases::names::named;
 use reference::cases::rooms;
 use reference::Refusal;
 
@@ -11,19 +12,24 @@ fn every_list_of_up_to_2_rooms_in_a_3_by_3_box() {
         .map(|code| [code % 4, code / 4 % 4, code / 16 % 4, code / 64])
         .collect();
     for &first in &corners {
-        let _ = tally.rooms_in(&GivenRooms::new(rooms(&[first])), [1; 3]);
+        let _ = tally.rooms_in(&GivenRooms::new(rooms(&[first])), [1; 4]);
         for &second in &corners {
-            let given = GivenRooms::new(rooms(&[first, second]));
-            let _ = tally.rooms_in(&given, [2; 3]);
+            let pair = rooms(&[first, second]);
+            for names in [[0, 0], [7, 7], [7, 0]] {
+                let given = GivenRooms::new(named(&pair, &names));
+                let _ = tally.rooms_in(&given, [2; 4]);
+            }
         }
     }
     // 36 boxes are rooms; pairs are refused with 2 unless both are.
-    let empty = 256 - 36 + 65_536 - 36 * 36;
+    let empty = 256 - 36 + 3 * (65_536 - 36 * 36);
     assert_eq!(tally.refused(Refusal::EmptyRoom), empty);
     // A box alone, or one cut in two, across or up, in either order: 4 spans
     // with a place to cut them, by 6 spans the other way.
-    assert_eq!(tally.accepted(), 36 + 2 * 2 * 4 * 6);
-    tally.finish(256 + 65_536);
+    let cut_in_two = 2 * 2 * 4 * 6;
+    assert_eq!(tally.accepted(), 36 + 2 * cut_in_two);
+    assert_eq!(tally.refused(Refusal::NameTwice), cut_in_two);
+    tally.finish(256 + 3 * 65_536);
 }
 
 #[test]
@@ -64,10 +70,15 @@ fn any_corners_at_all() {
                 .map(|(start, length)| start.saturating_add(length / 2).saturating_add(1));
             [left.min(right - 1), bottom.min(top - 1), right, top]
         });
-        tally.rooms(&GivenRooms::new(rooms(&upright.collect::<Vec<_>>())));
+        let upright = rooms(&upright.collect::<Vec<_>>());
+        tally.rooms(&GivenRooms::new(&upright[..]));
+        // And with small names, which are often the same.
+        let names: Vec<u16> = upright.iter().map(|_| random.number(0, 3)).collect();
+        tally.rooms(&GivenRooms::new(named(&upright, &names)));
     });
     tally.expect_often(1000, &Refusal::OF_ROOMS[..4]);
     tally.expect_often(10, &[Refusal::FourRoomsMeet]);
+    tally.expect_often(100, &[Refusal::NameTwice]);
     assert!(tally.accepted() > 1000);
-    tally.finish(2 * 3 * LISTS);
+    tally.finish(3 * 3 * LISTS);
 }

@@ -13,12 +13,13 @@ fn expect(tally: &mut Tally, corners: &[[u16; 4]], answer: Result<Numbering, Ref
     tally.rooms(&given);
 }
 
-/// The answer with this record, and these labels and positions.
+/// The answer with this record, these labels and positions, and no name.
 fn numbering(record: &[u8], labels: &[u8], positions: &[u8]) -> Result<Numbering, Refusal> {
     Ok(Numbering {
         record: record.to_vec(),
         labels: labels.to_vec(),
         positions: positions.to_vec(),
+        names: vec![0; labels.len()],
     })
 }
 

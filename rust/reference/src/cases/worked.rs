@@ -1,5 +1,6 @@
 //! What the sheet, 000 and 001 print.
 
+use super::names::named;
 use super::rooms;
 use crate::{Refusal, Room, Triple};
 
@@ -82,9 +83,9 @@ pub fn code_of_figure_7() -> Vec<Triple> {
 }
 
 /// A short room list for each cause of its refusal, two for the first one.
-/// The last two are in the sheet.
+/// Those with a gap and with four squares are in the sheet.
 #[must_use]
-pub fn refused_rooms() -> [(Vec<Room>, Refusal); 6] {
+pub fn refused_rooms() -> [(Vec<Room>, Refusal); 7] {
     let unit = [0, 0, 1, 1];
     let squares = [unit, [1, 0, 2, 1], [0, 1, 1, 2], [1, 1, 2, 2]];
     [
@@ -94,5 +95,6 @@ pub fn refused_rooms() -> [(Vec<Room>, Refusal); 6] {
         (rooms(&[unit, unit]), Refusal::SharedSquare),
         (rooms(&[unit, [2, 0, 3, 1]]), Refusal::OpenSquare),
         (rooms(&squares), Refusal::FourRoomsMeet),
+        (named(&rooms(&squares[..2]), &[9, 9]), Refusal::NameTwice),
     ]
 }

@@ -2,7 +2,7 @@
 
 use super::steps::{read, Step, Steps, NO_STEPS};
 use super::walks::{walk, walk_back, AllSeen, Seen, NOTHING_SEEN};
-use crate::{Corners, Refusal, Relation, Side};
+use crate::{Refusal, Relation, Room, Side};
 use std::hint::select_unpredictable;
 
 /// Record in, with the answers of [`crate::record_in`].
@@ -12,30 +12,25 @@ use std::hint::select_unpredictable;
 /// As there.
 // Not inlined, so that a benchmark pays for a call as with a library.
 #[inline(never)]
-pub fn record_in(record: &[u8], labels: &mut [u8], corners: Corners<'_>) -> Result<usize, Refusal> {
+pub fn record_in(record: &[u8], labels: &mut [u8], rooms: &mut [Room]) -> Result<usize, Refusal> {
     let (mut steps, mut seen) = (NO_STEPS, NOTHING_SEEN);
     let n = read(record, &mut steps)?;
     walk(n, &steps, &mut seen)?;
 
     let labels = labels.get_mut(..n).ok_or(Refusal::SliceShort)?;
-    let [left, bottom, right, top] = corners;
-    let left = left.get_mut(..n).ok_or(Refusal::SliceShort)?;
-    let bottom = bottom.get_mut(..n).ok_or(Refusal::SliceShort)?;
-    let right = right.get_mut(..n).ok_or(Refusal::SliceShort)?;
-    let top = top.get_mut(..n).ok_or(Refusal::SliceShort)?;
-
-    for place in 0..n {
-        let start = |across| start(place, steps[place], seen[place], across);
-        (left[place], bottom[place]) = (start(true), start(false));
-    }
+    let rooms = rooms.get_mut(..n).ok_or(Refusal::SliceShort)?;
     walk_back(n, &steps, &seen, 0, |place, label, entered| {
         labels[place] = label;
-        right[place] = entered;
+        let start = |across| start(place, steps[place], seen[place], across);
+        let end = |across| end(place, steps[place + 1], entered, across);
+        rooms[place] = Room {
+            left: start(true),
+            bottom: start(false),
+            right: end(true),
+            top: end(false),
+            name: 0,
+        };
     });
-    for place in 0..n {
-        let end = |across| end(place, steps[place + 1], right[place], across);
-        (right[place], top[place]) = (end(true), end(false));
-    }
     Ok(n)
 }
 
@@ -136,35 +131,46 @@ fn end(place: usize, step: Step, entered: u16, across: bool) -> u16 {
 mod tests {
     use crate::cases::walk::random_list;
     use crate::cases::Random;
-    use crate::{fast, plan_of, question, record_in, record_of, Questions, TRIPLES};
+    use crate::{fast, plan_of, question, record_in, record_of, Questions, Room, TRIPLES};
 
-    /// Compares the two versions of "Record in" on slices of `capacity` entries.
-    fn compare_into(record: &[u8], capacity: usize) {
+    /// Compares the two versions of "Record in" on slices for so many labels
+    /// and so many rooms.
+    fn compare_into(record: &[u8], capacities: [usize; 2]) {
+        let any_room = Room {
+            name: 0xa5a5,
+            ..Room::from([0xa5a5; 4])
+        };
         let mut outcomes = Vec::new();
         for call in [record_in, fast::record_in] {
-            let mut labels = vec![0xa5; capacity];
-            let mut corners = [(); 4].map(|()| vec![0xa5a5; capacity]);
-            let slices = corners.each_mut().map(|corner| &mut corner[..]);
-            let answer = call(record, &mut labels, slices);
-            outcomes.push((answer, labels, corners));
+            let mut labels = vec![0xa5; capacities[0]];
+            let mut rooms = vec![any_room; capacities[1]];
+            let answer = call(record, &mut labels, &mut rooms);
+            outcomes.push((answer, labels, rooms));
         }
-        assert_eq!(outcomes[0], outcomes[1], "{record:02x?} into {capacity}");
+        assert_eq!(
+            outcomes[0], outcomes[1],
+            "{record:02x?} into {capacities:?}"
+        );
     }
 
     /// Compares the two versions of both calls.
     fn compare(record: &[u8]) {
         let Ok(plan) = plan_of(record) else {
-            compare_into(record, 0);
-            compare_into(record, 8);
+            compare_into(record, [0; 2]);
+            compare_into(record, [8; 2]);
             let answers = (question(record, 0, 0), fast::question(record, 0, 0));
             assert_eq!(answers.0, answers.1, "{record:02x?}");
             return;
         };
         let questions = Questions::about(plan);
         let n = record[0];
-        for capacity in [0, usize::from(n) - 1, usize::from(n), usize::from(n) + 1] {
-            compare_into(record, capacity);
+        for less in [1, usize::from(n)] {
+            let capacities = [usize::from(n) - less, usize::from(n)];
+            compare_into(record, capacities);
+            compare_into(record, [capacities[1], capacities[0]]);
         }
+        compare_into(record, [usize::from(n); 2]);
+        compare_into(record, [usize::from(n) + 1, usize::from(n) + 2]);
         for first in 0..=n.saturating_add(1) {
             for second in 0..=n.saturating_add(1) {
                 let answer = fast::question(record, first, second);

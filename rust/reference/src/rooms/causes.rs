@@ -1,4 +1,5 @@
-//! The causes 1 to 5 in the sheet's table of refusals.
+//! The causes 1 to 5 in the sheet's table of refusals, and the cause 20 that
+//! M-106 adds.
 
 use std::collections::BTreeMap;
 
@@ -68,4 +69,11 @@ fn rooms_at_corners(rooms: &[Room]) -> BTreeMap<(u16, u16), usize> {
         }
     }
     counts
+}
+
+/// Whether one nonzero name is on two rooms: on two different ones, that is.
+pub(super) fn share_a_name(rooms: &[Room]) -> bool {
+    let places = || 0..rooms.len();
+    let mut pairs = places().flat_map(|i| places().map(move |j| (i, j)));
+    pairs.any(|(i, j)| i != j && rooms[i].name == rooms[j].name && rooms[i].name != 0)
 }

@@ -26,7 +26,8 @@ type Holding = BTreeSet<(usize, Side)>;
 /// partner, and likewise for right, bottom and top edges.
 ///
 /// All n! ways to pair the rooms off are tried, so the lists should be small.
-/// A refused list is no floorplan and equivalent to none.
+/// A list with one of the causes 1 to 5 is no floorplan and equivalent to none.
+/// By M-106 "equivalence ignores" names.
 #[must_use]
 pub fn equivalent(a: &[Room], b: &[Room]) -> bool {
     let (Ok(a), Ok(b)) = (floorplan_of(a), floorplan_of(b)) else {

@@ -31,9 +31,9 @@ pub(super) fn orders_of(rooms: &[Supports]) -> Vec<Order> {
         .collect()
 }
 
-/// The label list: the labels by position.
-pub(super) fn label_list(orders: &[Order]) -> Vec<u8> {
-    let mut by_position = orders.to_vec();
-    by_position.sort_by_key(|order| order.position);
-    by_position.iter().map(|order| order.label).collect()
+/// What each room has, from list order into the order of the positions.
+pub(super) fn by_position<T: Copy>(orders: &[Order], of_rooms: &[T]) -> Vec<T> {
+    let mut places: Vec<usize> = (0..orders.len()).collect();
+    places.sort_by_key(|&place| orders[place].position);
+    places.iter().map(|&place| of_rooms[place]).collect()
 }

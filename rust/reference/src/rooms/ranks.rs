@@ -4,8 +4,9 @@ use std::collections::{BTreeMap, BTreeSet};
 
 use crate::Room;
 
-/// The rooms with every coordinate replaced by its rank: the number of
-/// smaller ones among the corner coordinates of the same direction.
+/// The rooms, named as they are, with every coordinate replaced by its rank:
+/// the number of smaller ones among the corner coordinates of the same
+/// direction.
 ///
 /// This changes nothing that the sheet asks of a room list. Ranks rise
 /// exactly where coordinates do, so what is compared compares the same, and
@@ -26,6 +27,7 @@ pub(super) fn ranked(rooms: &[Room]) -> Vec<Room> {
             bottom: up[&room.bottom],
             right: across[&room.right],
             top: up[&room.top],
+            name: room.name,
         })
         .collect()
 }

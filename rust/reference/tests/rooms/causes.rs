@@ -1,6 +1,8 @@
-//! The causes 1 to 5 to the letter, on every unit square and every point.
+//! The causes 1 to 5 to the letter, on every unit square and every point, and
+//! then the cause 20.
 
 use crate::help::ask;
+use reference::cases::names::named;
 use reference::cases::{rooms, Random};
 use reference::{Refusal, Room};
 
@@ -32,20 +34,25 @@ fn cause(rooms: &[Room]) -> Option<Refusal> {
         let corner = |r: &&Room| (r.left == x || r.right == x) && (r.bottom == y || r.top == y);
         rooms.iter().filter(corner).count() == 4
     };
-    rooms
-        .iter()
-        .any(|r| meet(r.right, r.top))
-        .then_some(Refusal::FourRoomsMeet)
+    if rooms.iter().any(|r| meet(r.right, r.top)) {
+        return Some(Refusal::FourRoomsMeet);
+    }
+    let on = |name: u16| rooms.iter().filter(|r| r.name == name).count();
+    let is_shared = |r: &Room| r.name > 0 && on(r.name) > 1;
+    rooms.iter().any(is_shared).then_some(Refusal::NameTwice)
 }
 
-/// How often each cause was met; no cause is 0.
-type Met = [usize; 6];
+/// How often each of the causes 1 to 5 was met; no cause is 0, and 20 is 6.
+type Met = [usize; 7];
 
 fn check(rooms: &[Room], met: &mut Met) {
     let expected = cause(rooms);
     let answer = ask(rooms);
     assert_eq!(answer.err(), expected, "{rooms:?}");
-    met[expected.map_or(0, |cause| usize::from(cause.number()))] += 1;
+    let which = Refusal::OF_ROOMS
+        .iter()
+        .position(|&cause| Some(cause) == expected);
+    met[which.map_or(0, |which| which + 1)] += 1;
 }
 
 #[test]
@@ -53,27 +60,31 @@ fn every_list_of_up_to_2_rooms_in_a_3_by_3_box() {
     let corners: Vec<[u16; 4]> = (0..256)
         .map(|code| [code % 4, code / 4 % 4, code / 16 % 4, code / 64])
         .collect();
-    let mut met = [0; 6];
+    let mut met = [0; 7];
     for &first in &corners {
         check(&rooms(&[first]), &mut met);
         for &second in &corners {
-            check(&rooms(&[first, second]), &mut met);
+            let pair = rooms(&[first, second]);
+            check(&pair, &mut met);
+            check(&named(&pair, &[7, 7]), &mut met);
         }
     }
-    assert_eq!(met.iter().sum::<usize>(), 256 + 65_536);
+    assert_eq!(met.iter().sum::<usize>(), 256 + 2 * 65_536);
     // 36 boxes; pairs are refused with 2 unless both are such boxes
-    assert_eq!(met[2], 256 - 36 + 65_536 - 36 * 36);
+    assert_eq!(met[2], 256 - 36 + 2 * (65_536 - 36 * 36));
     // a box alone; or one cut in two, across or up, in either order: 4 spans
     // with a place to cut them, by 6 spans the other way
-    assert_eq!(met[0], 36 + 2 * 2 * 4 * 6);
-    assert!(met[3] > 300 && met[4] > 300, "{met:?}");
+    let cut_in_two = 2 * 2 * 4 * 6;
+    assert_eq!(met[0], 36 + cut_in_two);
+    assert_eq!(met[6], cut_in_two);
+    assert!(met[3] > 600 && met[4] > 600, "{met:?}");
 }
 
 /// Cuts a box of 6 by 6 at a few places, then spoils it in some rounds.
 #[test]
 fn boxes_cut_at_random_and_spoiled() {
     let mut random = Random::from_seed(5);
-    let mut met = [0; 6];
+    let mut met = [0; 7];
     for round in 0..40_000 {
         let mut corners = vec![[0, 0, 6, 6]];
         for _ in 0..random.below(7) {
@@ -98,7 +109,9 @@ fn boxes_cut_at_random_and_spoiled() {
             _ => {}
         }
         random.shuffle(&mut corners);
-        check(&rooms(&corners), &mut met);
+        // Small numbers, so that in many lists two names are the same.
+        let names: Vec<u16> = corners.iter().map(|_| random.number(0, 12)).collect();
+        check(&named(&rooms(&corners), &names), &mut met);
     }
     assert!(met.iter().all(|&count| count > 500), "{met:?}");
 }

@@ -70,6 +70,7 @@ fn every_drawing_shuffled_shifted_and_stretched() {
                 bottom: rooms[place].bottom + y,
                 right: rooms[place].right + x,
                 top: rooms[place].top + y,
+                ..rooms[place]
             });
 
             let (across, up) = (rising(n, &mut random), rising(n, &mut random));
@@ -78,6 +79,7 @@ fn every_drawing_shuffled_shifted_and_stretched() {
                 bottom: up[usize::from(rooms[place].bottom)],
                 right: across[usize::from(rooms[place].right)],
                 top: up[usize::from(rooms[place].top)],
+                ..rooms[place]
             });
         }
     });

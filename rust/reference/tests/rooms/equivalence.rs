@@ -3,6 +3,7 @@
 //! not.
 
 use crate::help::{ask, standings};
+use reference::cases::names::{named, some_names};
 use reference::cases::{baxter_lists, rooms, Random};
 use reference::{drawing, equivalent, plan_of, Room};
 use std::collections::BTreeMap;
@@ -24,6 +25,24 @@ fn all_pairs_of_drawings_of_up_to_4_labels() {
         }
     }
     assert_eq!(pairs, lists.len());
+}
+
+#[test]
+fn names_do_not_count() {
+    let mut random = Random::from_seed(4);
+    let lists: Vec<Vec<u8>> = (1..=4).flat_map(baxter_lists).collect();
+    let mut differ = 0;
+    for rooms in lists.iter().map(|labels| drawing(labels)) {
+        let [one, other] = [(); 2].map(|()| named(&rooms, &some_names(rooms.len(), &mut random)));
+        assert!(equivalent(&one, &other), "{one:?} and {other:?}");
+        assert_eq!(ask(&one).unwrap().record, ask(&other).unwrap().record);
+        differ += usize::from(one != other);
+
+        // One name on two rooms is refused, and changes nothing of the plan.
+        let alike = named(&rooms, &vec![7; rooms.len()]);
+        assert!(equivalent(&one, &alike), "{one:?} and {alike:?}");
+    }
+    assert!(differ > lists.len() / 2, "{differ}");
 }
 
 /// Calls `visit` with every way to fill what is left of a box of `width` by

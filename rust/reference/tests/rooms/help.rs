@@ -1,21 +1,28 @@
 //! What the tests of this folder share.
 
+use reference::cases::unwritten;
 use reference::{rooms_in, Contacts, Numbering, Refusal, Relation, Room};
 use std::collections::BTreeMap;
 
-/// Asks Rooms in, with slices that are longer than needed.
+/// Asks Rooms in, with slices that are longer than needed. The rest of each
+/// must stay as it was, and all of them on a refusal.
 pub fn ask(rooms: &[Room]) -> Result<Numbering, Refusal> {
-    let (mut record, mut labels, mut positions) = ([0xEE; 100], [0xEE; 300], [0xEE; 300]);
-    let length = rooms_in(rooms, [&mut record, &mut labels, &mut positions]);
+    let lengths = [100, 300, 301, 302];
+    let mut written = unwritten(lengths);
+    let length = rooms_in(rooms, written.slices());
     let (used, n) = length.map_or((0, 0), |length| (length, rooms.len()));
-    assert!(record[used..].iter().all(|&byte| byte == 0xEE));
-    assert!(labels[n..].iter().all(|&label| label == 0xEE));
-    assert!(positions[n..].iter().all(|&position| position == 0xEE));
-    length.map(|length| Numbering {
-        record: record[..length].to_vec(),
-        labels: labels[..n].to_vec(),
-        positions: positions[..n].to_vec(),
-    })
+    let rest = Numbering {
+        record: written.record.split_off(used),
+        labels: written.labels.split_off(n),
+        positions: written.positions.split_off(n),
+        names: written.names.split_off(n),
+    };
+    let used = [used, n, n, n];
+    assert_eq!(
+        rest,
+        unwritten([0, 1, 2, 3].map(|slice| lengths[slice] - used[slice]))
+    );
+    length.map(|_| written)
 }
 
 /// The labels by position; every position must occur once.

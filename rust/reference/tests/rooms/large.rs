@@ -3,18 +3,13 @@
 use crate::help::{ask, label_list, standings};
 use reference::cases::walk::{random_list, Walked};
 use reference::cases::Random;
-use reference::{drawing, labels_in, plan_of, Room};
+use reference::{drawing, labels_in, plan_of, Refusal, Room};
 use std::collections::BTreeSet;
 
 /// 255 rooms: the largest box, cut again and again. No two cuts are on one
 /// line, so no four rooms meet at a point.
 fn cut_254_times(random: &mut Random) -> Vec<Room> {
-    let mut rooms = vec![Room {
-        left: 0,
-        bottom: 0,
-        right: 65_535,
-        top: 65_535,
-    }];
+    let mut rooms = vec![Room::from([0, 0, 65_535, 65_535])];
     let mut across = BTreeSet::new();
     let mut up = BTreeSet::new();
     while rooms.len() < 255 {
@@ -106,11 +101,12 @@ fn any_corners_at_all_are_answered() {
                 bottom: random.number(0, most),
                 right: random.number(0, most),
                 top: random.number(0, most),
+                name: random.number(0, most),
             })
             .collect();
         match ask(&list) {
             Ok(_) => accepted += 1,
-            Err(refusal) => assert!((1..=5).contains(&refusal.number())),
+            Err(refusal) => assert!(Refusal::OF_ROOMS.contains(&refusal)),
         }
     }
     assert!(accepted > 10, "{accepted}");

@@ -6,5 +6,6 @@ mod drawings;
 mod equivalence;
 mod help;
 mod large;
+mod names;
 mod slices;
 mod worked;

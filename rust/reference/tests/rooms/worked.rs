@@ -4,12 +4,14 @@ use crate::help::{ask, label_list};
 use reference::cases::{rooms, worked};
 use reference::{drawing, Numbering, Refusal};
 
-/// Compares what a list is answered with: record, labels and positions.
+/// Compares what a list without names is answered with: record, labels and
+/// positions.
 fn expect(corners: &[[u16; 4]], [record, labels, positions]: [&[u8]; 3]) {
     let expected = Numbering {
         record: record.to_vec(),
         labels: labels.to_vec(),
         positions: positions.to_vec(),
+        names: vec![0; corners.len()],
     };
     assert_eq!(ask(&rooms(corners)), Ok(expected), "{corners:?}");
 }
@@ -26,7 +28,7 @@ fn two_rooms_in_either_order() {
 }
 
 #[test]
-fn a_gap_is_4_and_four_unit_squares_are_5() {
+fn a_gap_is_4_four_unit_squares_are_5_and_a_name_twice_is_20() {
     for (list, refusal) in worked::refused_rooms() {
         assert_eq!(ask(&list), Err(refusal), "{list:?}");
     }

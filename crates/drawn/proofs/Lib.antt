@@ -1,0 +1,4 @@
+-- Laws that the functions' proofs cite.
+pub mod Answered
+pub mod Lent
+pub mod Arrays
