@@ -21,12 +21,13 @@ fn corner(byte: u8) -> u16
     byte as u16
 }
 
-// The room with index i, of which the corners stand in arrays by position. It is unnamed.
+// The room with index i, of which the corners stand in arrays by position. It is unnamed. One lifetime does for the four: the walk
+// by hand that calls it lends them at once.
 pub fn room_from<'a>(
     left: &'a [u8; 255],
     bottom: &'a [u8; 255],
-    right: &'a [u16; 255],
-    top: &'a [u16; 255],
+    right: &'a [u8; 255],
+    top: &'a [u8; 255],
     i: usize,
 ) -> Room
     requires { ⌜ i < 255 ⌝ }
@@ -35,8 +36,8 @@ pub fn room_from<'a>(
     Room {
         left: corner(left[i]),
         bottom: corner(bottom[i]),
-        right: right[i],
-        top: top[i],
+        right: corner(right[i]),
+        top: corner(top[i]),
         name: 0,
     }
 }
@@ -59,8 +60,8 @@ pub fn read_corners(
     places: usize,
     left: &mut [u8; 255],
     bottom: &mut [u8; 255],
-    right: &mut [u16; 255],
-    top: &mut [u16; 255],
+    right: &mut [u8; 255],
+    top: &mut [u8; 255],
 ) -> RecordAnswer
     requires { ⌜ (length (now left) ≡ 255) × (length (now bottom) ≡ 255) × (length (now right) ≡ 255) × (length (now top) ≡ 255) ⌝ }
     ensures { λ r. ⌜ CornersIn (now («record» .entry)) (now (labels .entry)) places r (now (labels .exit))

@@ -18,8 +18,8 @@ pub fn walk(
     triples: &[u8; 255],
     lower: &[u8; 255],
     labels: &mut [u8],
-    right: &mut [u16],
-    top: &mut [u16],
+    right: &mut [u8],
+    top: &mut [u8],
 )
     requires { ⌜ (earliest < n) × (n ≤ 255) × (length (now body) ≡ bodyLength n) × Accepted (tripleIn (now body)) n ⌝
         ∗ ⌜ Unpacked (tripleIn (now body)) n (now triples) × Lowers (tripleIn (now body)) n (now lower) ⌝
@@ -40,8 +40,8 @@ pub fn walk(
     while earliest < i {
         let label = lowest + steps::wide(lower[i]);
         labels[i] = label as u8;
-        right[i] = end_right as u16;
-        top[i] = end_up as u16;
+        right[i] = end_right as u8;
+        top[i] = end_up as u8;
         let turn = steps::turn_of(triples[i - 1]);
         let under = runs_below + turn.below;
         let over = runs_above + turn.above;
@@ -60,6 +60,6 @@ pub fn walk(
     }
     let label = lowest + steps::wide(lower[earliest]);
     labels[earliest] = label as u8;
-    right[earliest] = end_right as u16;
-    top[earliest] = end_up as u16;
+    right[earliest] = end_right as u8;
+    top[earliest] = end_up as u8;
 }

@@ -25,8 +25,8 @@ fn count(answer: RecordAnswer) -> usize
 fn put_rooms<'a>(
     left: &'a [u8; 255],
     bottom: &'a [u8; 255],
-    right: &'a [u16; 255],
-    top: &'a [u16; 255],
+    right: &'a [u8; 255],
+    top: &'a [u8; 255],
     n: usize,
     rooms: &mut [Room],
 )
@@ -55,8 +55,8 @@ pub fn record_in(record: &[u8], labels: &mut [u8], rooms: &mut [Room]) -> Record
 {
     let mut left = [0u8; 255];
     let mut bottom = [0u8; 255];
-    let mut right = [0u16; 255];
-    let mut top = [0u16; 255];
+    let mut right = [0u8; 255];
+    let mut top = [0u8; 255];
     let answer = answers::read_corners(
         record,
         labels,

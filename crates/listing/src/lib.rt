@@ -36,8 +36,8 @@ fn put_lines<'a>(
     labels: &[u8],
     left: &'a [u8; 255],
     bottom: &'a [u8; 255],
-    right: &'a [u16; 255],
-    top: &'a [u16; 255],
+    right: &'a [u8; 255],
+    top: &'a [u8; 255],
 ) -> usize
     requires { ⌜ Places n (now labels) ⌝ ∗ ⌜ start + 36 * n ≤ length (now text) ⌝ }
     ensures { λ r. ⌜ Put (now (text .entry)) start
@@ -62,8 +62,8 @@ pub fn put_listing<'a>(
     labels: &[u8],
     left: &'a [u8; 255],
     bottom: &'a [u8; 255],
-    right: &'a [u16; 255],
-    top: &'a [u16; 255],
+    right: &'a [u8; 255],
+    top: &'a [u8; 255],
 ) -> usize
     requires { ⌜ Places n (now labels) ⌝ ∗ ⌜ 9200 ≤ length (now text) ⌝ }
     ensures { λ r. ⌜ Put (now (text .entry)) 0

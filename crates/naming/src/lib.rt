@@ -115,7 +115,7 @@ pub fn twice(names: &[u16]) -> bool
         let mut seen = [0u64; 32];
         return twice_in_bits(names, &mut seen);
     }
-    if names.len() <= 63 {
+    if names.len() <= 32 {
         return twice_in_pairs(names);
     }
     let mut seen = [0u64; 1024];

@@ -16,8 +16,8 @@ fn put_rooms<'a>(
     labels: &[u8],
     left: &'a [u8; 255],
     bottom: &'a [u8; 255],
-    right: &'a [u16; 255],
-    top: &'a [u16; 255],
+    right: &'a [u8; 255],
+    top: &'a [u8; 255],
 ) -> usize
     requires { ⌜ Plan n (now labels) (now left) (now bottom) (now right) (now top) ⌝ ∗ ⌜ start + 154 * n ≤ length (now text) ⌝ }
     ensures { λ r. ⌜ Put (now (text .entry)) start
@@ -44,8 +44,8 @@ fn put_segments<'a>(
     labels: &[u8],
     left: &'a [u8; 255],
     bottom: &'a [u8; 255],
-    right: &'a [u16; 255],
-    top: &'a [u16; 255],
+    right: &'a [u8; 255],
+    top: &'a [u8; 255],
 ) -> usize
     requires { ⌜ Plan n (now labels) (now left) (now bottom) (now right) (now top) ⌝ ∗ ⌜ (1 ≤ n) × (start + 62 * n ≤ length (now text)) ⌝ }
     ensures { λ r. ⌜ Put (now (text .entry)) start
@@ -72,8 +72,8 @@ pub fn put_plan<'a>(
     labels: &[u8],
     left: &'a [u8; 255],
     bottom: &'a [u8; 255],
-    right: &'a [u16; 255],
-    top: &'a [u16; 255],
+    right: &'a [u8; 255],
+    top: &'a [u8; 255],
 ) -> usize
     requires { ⌜ Plan n (now labels) (now left) (now bottom) (now right) (now top) ⌝ ∗ ⌜ (1 ≤ n) × (56000 ≤ length (now text)) ⌝ }
     ensures { λ r. ⌜ Put (now (text .entry)) 0

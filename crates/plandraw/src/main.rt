@@ -23,8 +23,8 @@ fn put_picture(record: &[u8], text: &mut [u8]) -> usize
     let mut labels = [0u8; 255];
     let mut left = [0u8; 255];
     let mut bottom = [0u8; 255];
-    let mut right = [0u16; 255];
-    let mut top = [0u16; 255];
+    let mut right = [0u8; 255];
+    let mut top = [0u8; 255];
     match answers::read_corners(
         record,
         &mut labels,

@@ -46,8 +46,8 @@ fn earlier(first: u8, second: u8) -> usize
 fn room_at<'a>(
     left: &'a [u8; 255],
     bottom: &'a [u8; 255],
-    right: &'a [u16; 255],
-    top: &'a [u16; 255],
+    right: &'a [u8; 255],
+    top: &'a [u8; 255],
     position: Position,
 ) -> Room
     requires { ⌜ 1 ≤ position .0 ⌝ }
@@ -64,8 +64,8 @@ pub fn question(record: &[u8], first: u8, second: u8) -> QuestionAnswer
     let mut left = [0u8; 255];
     let mut bottom = [0u8; 255];
     let mut labels = [0u8; 255];
-    let mut right = [0u16; 255];
-    let mut top = [0u16; 255];
+    let mut right = [0u8; 255];
+    let mut top = [0u8; 255];
     match reading::read(
         record,
         earlier(first, second),

@@ -90,8 +90,8 @@ fn finish(
     triples: &[u8; 255],
     lower: &[u8; 255],
     labels: &mut [u8],
-    right: &mut [u16],
-    top: &mut [u16],
+    right: &mut [u8],
+    top: &mut [u8],
 )
     requires { ⌜ Ready (now «record») n (now triples) (now lower) ⌝
         ∗ ⌜ (earliest < n) × (n ≤ length (now labels)) × (n ≤ length (now right)) × (n ≤ length (now top)) ⌝ }
@@ -120,8 +120,8 @@ pub fn read(
     left: &mut [u8; 255],
     bottom: &mut [u8; 255],
     labels: &mut [u8],
-    right: &mut [u16],
-    top: &mut [u16],
+    right: &mut [u8],
+    top: &mut [u8],
 ) -> Reading
     requires { ⌜ (length (now left) ≡ 255) × (length (now bottom) ≡ 255) ⌝
         ∗ ⌜ (places ≤ length (now labels)) × (places ≤ length (now right)) × (places ≤ length (now top)) ⌝ }

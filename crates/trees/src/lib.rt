@@ -250,8 +250,8 @@ pub fn tree(record: &[u8], tree: &mut [u8]) -> TreeAnswer
     let mut left = [0u8; 255];
     let mut bottom = [0u8; 255];
     let mut labels = [0u8; 255];
-    let mut right = [0u16; 255];
-    let mut top = [0u16; 255];
+    let mut right = [0u8; 255];
+    let mut top = [0u8; 255];
     match reading::read(
         record,
         0,

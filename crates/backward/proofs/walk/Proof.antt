@@ -157,17 +157,11 @@ slice-write-labels c = let l = c .before .before .before in omega (arith, l .loo
 cast-right : tie.Need-cast-right Inv-loop μ-loop
 cast-right c = record { fits = omega (arith, ends-few (c .before .before .before) .1) }
 
-mul-right : tie.Need-mul-right Inv-loop μ-loop
-mul-right c = record { fits = omega (arith, index-small (c .before .before)) }
-
 slice-write-right : tie.Need-slice-write-right Inv-loop μ-loop
 slice-write-right c = let l = c .before .before .before in omega (arith, l .loop .inv .0 .within, l .loop .inv .2 .rights-are .size, l .before .before .before .before .before .pre .1 .1 .1)
 
 cast-top : tie.Need-cast-top Inv-loop μ-loop
 cast-top c = record { fits = omega (arith, ends-few (c .before .before .before) .0) }
-
-mul-top : tie.Need-mul-top Inv-loop μ-loop
-mul-top c = record { fits = omega (arith, index-small (c .before .before)) }
 
 slice-write-top : tie.Need-slice-write-top Inv-loop μ-loop
 slice-write-top c = let l = c .before .before .before in omega (arith, l .loop .inv .0 .within, l .loop .inv .2 .tops-are .size, l .before .before .before .before .before .pre .1 .1 .2)
@@ -301,17 +295,11 @@ slice-write-labels-2 c = let l = c .before .before .before in let s = l .before 
 cast-right-2 : tie.Need-cast-right-2 Inv-loop μ-loop
 cast-right-2 c = record { fits = omega (arith, ends-few (c .before .before .before) .1) }
 
-mul-right-2 : tie.Need-mul-right-2 Inv-loop μ-loop
-mul-right-2 c = let s = c .before .before .before .before .before .before .before .before in record { fits = omega (arith, s .pre .0 .0, s .pre .0 .1) }
-
 slice-write-right-2 : tie.Need-slice-write-right-2 Inv-loop μ-loop
 slice-write-right-2 c = let l = c .before .before .before in let s = l .before .before .before .before .before in omega (arith, s .pre .0 .0, l .loop .inv .2 .rights-are .size, s .pre .1 .1 .1)
 
 cast-top-2 : tie.Need-cast-top-2 Inv-loop μ-loop
 cast-top-2 c = record { fits = omega (arith, ends-few (c .before .before .before) .0) }
-
-mul-top-2 : tie.Need-mul-top-2 Inv-loop μ-loop
-mul-top-2 c = let s = c .before .before .before .before .before .before .before .before in record { fits = omega (arith, s .pre .0 .0, s .pre .0 .1) }
 
 slice-write-top-2 : tie.Need-slice-write-top-2 Inv-loop μ-loop
 slice-write-top-2 c = let l = c .before .before .before in let s = l .before .before .before .before .before in omega (arith, s .pre .0 .0, l .loop .inv .2 .tops-are .size, s .pre .1 .1 .2)
@@ -342,10 +330,8 @@ walk-spec =
     cast-labels
     slice-write-labels
     cast-right
-    mul-right
     slice-write-right
     cast-top
-    mul-top
     slice-write-top
     sub-turn-of
     element-copy-out-turn-of
@@ -385,10 +371,8 @@ walk-spec =
     cast-labels-2
     slice-write-labels-2
     cast-right-2
-    mul-right-2
     slice-write-right-2
     cast-top-2
-    mul-top-2
     slice-write-top-2
     same-length
     same-length-2

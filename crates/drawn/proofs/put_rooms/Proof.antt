@@ -30,7 +30,7 @@ use types.Kit.{Given, Item, ‵, raw, _⊛_, some, later, ⋆, anyQ, atRet, runs
 use types.Part.{whole, sub, look-in, store-in}
 use types.Run.{Below, again, loops, blocks, first, stays, leaves-loop, look, store, init, forget, stop, hop, fld, from, load, lit, unit-lit, of-opd, bin, and-then, no-more, land, assigns, assigns-last, returns, enter, exec, alloc1, alloc0, params1, pass1, pass0, free1, free0}
 use sound.WpLaws.{fmOf, WpFn-mono}
-use denote.Builtin.{u8, u16, usize, ArrayOf}
+use denote.Builtin.{u8, usize, ArrayOf}
 use denote.Exit.{yes}
 use denote.Index.{row, place-is, elem-out, elem-put, opens-slice, closes-slice}
 use denote.Laws.{Is, shows}
@@ -54,7 +54,7 @@ use Rattle.drawing.specs.Corners.{roomIn}
 use Rattle.drawing.specs.declared.Room.{Room}
 use Rattle.drawing.proofs.Room as R
 use Rattle.drawing.proofs.Room.Laws as R′
-use Rattle.drawn.proofs.Arrays.{Bytes, Words, bytesT, wordsT, Four, ptrOf, left-own, bottom-own, right-own, top-own, Shrs, shrs-twice, shrs-owned}
+use Rattle.drawn.proofs.Arrays.{Bytes, bytesT, Four, ptrOf, left-own, bottom-own, right-own, top-own, Shrs, shrs-twice, shrs-owned}
 use Rattle.finite.specs.Fill.{filled, filled-none, length-filled, filled-store}
 use Rattle.answers.proofs.room_from as room-from
 use Rattle.answers.proofs.room_from.Symbol as room-from-def
@@ -73,9 +73,6 @@ word = tyInt w64
 abbrev bytesR : Ty
 bytesR = tyRef (named 0) imm bytesT
 
-abbrev wordsR : Ty
-wordsR = tyRef (named 0) imm wordsT
-
 abbrev roomsT : Ty
 roomsT = sliceTy (tyRef (named 1) mut (pointee (R.the-row .written)))
 
@@ -86,8 +83,8 @@ stayed = (
   (
     stay-none-ref (0 ∷ []) tt (ArrayOf (plain (λ _. u8)) (λ _. tt) 255) yes,
     (
-      stay-none-ref (0 ∷ []) tt (ArrayOf (plain (λ _. u16)) (λ _. tt) 255) yes,
-      (stay-none-ref (0 ∷ []) tt (ArrayOf (plain (λ _. u16)) (λ _. tt) 255) yes, (stay-none (λ _. usize) yes, (stay-slice (1 ∷ []) tt (plain (λ _. R.the-row)), tt))),
+      stay-none-ref (0 ∷ []) tt (ArrayOf (plain (λ _. u8)) (λ _. tt) 255) yes,
+      (stay-none-ref (0 ∷ []) tt (ArrayOf (plain (λ _. u8)) (λ _. tt) 255) yes, (stay-none (λ _. usize) yes, (stay-slice (1 ∷ []) tt (plain (λ _. R.the-row)), tt))),
     ),
   ),
 )
@@ -215,15 +212,15 @@ module _ {M : Type 1} (𝓤 : URA M) (H : Heap 𝓤) (A : Atoms 𝓤) (W : Given
       Λ = 𝓣 .Λ
 
       abbrev En : Env 𝓤 H
-      En = (tyUnit, l₀) ∷ (bytesR, l₁) ∷ (bytesR, l₂) ∷ (wordsR, l₃) ∷ (wordsR, l₄) ∷ (word, l₅) ∷ (roomsT, l₆) ∷ (word, l₇) ∷ (R′.mir, l₈) ∷ (tyBool, l₉) ∷ (word, l₁₀) ∷ (tyPtr, l₁₁) ∷ (tyPtr, l₁₂) ∷ (tyPtr, l₁₃) ∷ (tyPtr, l₁₄) ∷ (tyPtr, l₁₅) ∷ []
+      En = (tyUnit, l₀) ∷ (bytesR, l₁) ∷ (bytesR, l₂) ∷ (bytesR, l₃) ∷ (bytesR, l₄) ∷ (word, l₅) ∷ (roomsT, l₆) ∷ (word, l₇) ∷ (R′.mir, l₈) ∷ (tyBool, l₉) ∷ (word, l₁₀) ∷ (tyPtr, l₁₁) ∷ (tyPtr, l₁₂) ∷ (tyPtr, l₁₃) ∷ (tyPtr, l₁₄) ∷ (tyPtr, l₁₅) ∷ []
 
       -- that each local dies
       abbrev Dies : List (Item 𝓤)
-      Dies = ‵ (fdies tyUnit l₀) ∷ ‵ (fdies bytesR l₁) ∷ ‵ (fdies bytesR l₂) ∷ ‵ (fdies wordsR l₃) ∷ ‵ (fdies wordsR l₄) ∷ ‵ (fdies word l₅) ∷ ‵ (fdies roomsT l₆) ∷ ‵ (fdies word l₇) ∷ ‵ (fdies R′.mir l₈) ∷ ‵ (fdies tyBool l₉) ∷ ‵ (fdies word l₁₀) ∷ ‵ (fdies tyPtr l₁₁) ∷ ‵ (fdies tyPtr l₁₂) ∷ ‵ (fdies tyPtr l₁₃) ∷ ‵ (fdies tyPtr l₁₄) ∷ ‵ (fdies tyPtr l₁₅) ∷ []
+      Dies = ‵ (fdies tyUnit l₀) ∷ ‵ (fdies bytesR l₁) ∷ ‵ (fdies bytesR l₂) ∷ ‵ (fdies bytesR l₃) ∷ ‵ (fdies bytesR l₄) ∷ ‵ (fdies word l₅) ∷ ‵ (fdies roomsT l₆) ∷ ‵ (fdies word l₇) ∷ ‵ (fdies R′.mir l₈) ∷ ‵ (fdies tyBool l₉) ∷ ‵ (fdies word l₁₀) ∷ ‵ (fdies tyPtr l₁₁) ∷ ‵ (fdies tyPtr l₁₂) ∷ ‵ (fdies tyPtr l₁₃) ∷ ‵ (fdies tyPtr l₁₄) ∷ ‵ (fdies tyPtr l₁₅) ∷ []
 
       -- what no turn touches
       abbrev Frame : List (Item 𝓤)
-      Frame = ‵ (flft (d .κ) (d .q)) ∷ Arrays ∷ ‵ (fat fullShare bytesR l₁ 0 v₁) ∷ ‵ (fat fullShare bytesR l₂ 0 v₂) ∷ ‵ (fat fullShare wordsR l₃ 0 v₃) ∷ ‵ (fat fullShare wordsR l₄ 0 v₄) ∷ ‵ (fat fullShare word l₅ 0 (vint w64 n)) ∷ ‵ (fat fullShare roomsT l₆ 0 s)
+      Frame = ‵ (flft (d .κ) (d .q)) ∷ Arrays ∷ ‵ (fat fullShare bytesR l₁ 0 v₁) ∷ ‵ (fat fullShare bytesR l₂ 0 v₂) ∷ ‵ (fat fullShare bytesR l₃ 0 v₃) ∷ ‵ (fat fullShare bytesR l₄ 0 v₄) ∷ ‵ (fat fullShare word l₅ 0 (vint w64 n)) ∷ ‵ (fat fullShare roomsT l₆ 0 s)
           ∷ ‵ (froom tyUnit l₀ 0) ∷ ‵ (fobor (d .κ₁) (d .q₁) (Held R.the-row (length ys) b o (d .y .name))) ∷ ‵ (fobs (d .y .name) (codedHoleys R.the-row .code (heres R.the-row ys))) ∷ ‵ (fauth (d .y .name) (codedHoleys R.the-row .code (heres R.the-row ys))) ∷ Dies
 
       abbrev At : Upto → List (Item 𝓤)
@@ -335,7 +332,7 @@ module _ {M : Type 1} (𝓤 : URA M) (H : Heap 𝓤) (A : Atoms 𝓤) (W : Given
   put-rooms-walks : Walks 𝓤 H A put-rooms.ended stayed (WpFn 𝓤 H (𝓣 .C) (𝓣 .Λ) code.function) (put-rooms.clauses 𝓤 H A mem run)
   put-rooms-walks = walked 𝓤 H A put-rooms.ended stayed (put-rooms.clauses 𝓤 H A mem run) (WpFn 𝓤 H (𝓣 .C) (𝓣 .Λ) code.function)
       (λ κs. (ptr-vals, (ptr-vals, (ptr-vals, (ptr-vals, (uint-vals w64, (slice-vals, tt)))))))
-      (λ κs. (shr-tells (named 0) (κs .0) Bytes, (shr-tells (named 0) (κs .0) Bytes, (shr-tells (named 0) (κs .0) Words, (shr-tells (named 0) (κs .0) Words, (uint-tells w64, (mut-slice-tells (named 1) (κs .1 .0) R.the-row, tt)))))))
+      (λ κs. (shr-tells (named 0) (κs .0) Bytes, (shr-tells (named 0) (κs .0) Bytes, (shr-tells (named 0) (κs .0) Bytes, (shr-tells (named 0) (κs .0) Bytes, (uint-tells w64, (mut-slice-tells (named 1) (κs .1 .0) R.the-row, tt)))))))
       (λ κs qs bounds a g are. needs 𝓤 ((a .1 .1 .1 .1 .0 ≤ 255) × (a .1 .1 .1 .1 .0 ≤ length (a .1 .1 .1 .1 .1 .0 .now))) _ (λ bound.
       walk 𝓤 H A W mem run (record {
         κ = κs .0;
@@ -353,8 +350,8 @@ module _ {M : Type 1} (𝓤 : URA M) (H : Heap 𝓤) (A : Atoms 𝓤) (W : Given
     (
       goes-none-ref 𝓤 H A W 2 (0 ∷ []) tt (ArrayOf (plain (λ _. u8)) (λ _. tt) 255) yes,
       (
-        goes-none-ref 𝓤 H A W 2 (0 ∷ []) tt (ArrayOf (plain (λ _. u16)) (λ _. tt) 255) yes,
-        (goes-none-ref 𝓤 H A W 2 (0 ∷ []) tt (ArrayOf (plain (λ _. u16)) (λ _. tt) 255) yes, (goes-none 𝓤 H A W 2 (λ _. usize) yes (λ κs x f. refl), (goes-slice 𝓤 H A W 2 1 tt (plain (λ _. R.the-row)), tt))),
+        goes-none-ref 𝓤 H A W 2 (0 ∷ []) tt (ArrayOf (plain (λ _. u8)) (λ _. tt) 255) yes,
+        (goes-none-ref 𝓤 H A W 2 (0 ∷ []) tt (ArrayOf (plain (λ _. u8)) (λ _. tt) 255) yes, (goes-none 𝓤 H A W 2 (λ _. usize) yes (λ κs x f. refl), (goes-slice 𝓤 H A W 2 1 tt (plain (λ _. R.the-row)), tt))),
       ),
     ),
   ) (put-rooms.clauses 𝓤 H A mem run) (WpFn 𝓤 H (𝓣 .C) (𝓣 .Λ) code.function) (WpFn-mono 𝓤 H (W .laws) 𝓣 code.function) put-rooms-walks
