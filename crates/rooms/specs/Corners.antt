@@ -16,7 +16,13 @@ pub record OneLength (lefts bottoms rights tops : List ℕ) : Type 0 where
 
 -- the room at place i
 abbrev pub cornersAt : (lefts bottoms rights tops : List ℕ) → (i : ℕ) → Room
-cornersAt lefts bottoms rights tops i = record { left = getD lefts i 0; bottom = getD bottoms i 0; right = getD rights i 0; top = getD tops i 0; name = 0 }
+cornersAt lefts bottoms rights tops i = record {
+  left = getD lefts i 0;
+  bottom = getD bottoms i 0;
+  right = getD rights i 0;
+  top = getD tops i 0;
+  name = 0;
+}
 
 -- the first n of them
 unfoldable pub roomsOf : (lefts bottoms rights tops : List ℕ) → (n : ℕ) → List Room

@@ -14,8 +14,8 @@ use reference::{Refusal, Room};
 
 /// Counts of rooms near those at which a version goes another way: eights,
 /// powers of two, and the longest list.
-const COUNTS: [usize; 17] = [
-    2, 3, 5, 7, 8, 9, 15, 16, 17, 40, 47, 48, 49, 63, 64, 65, 255,
+const COUNTS: [usize; 20] = [
+    2, 3, 5, 7, 8, 9, 15, 16, 17, 31, 32, 33, 40, 47, 48, 49, 63, 64, 65, 255,
 ];
 
 /// A moved drawing of `n` labels.
@@ -83,7 +83,7 @@ fn one_name_on_any_two_rooms_with_all_others_unnamed() {
     let name = "one name on any two rooms, the others unnamed";
     let tally = Tally::of_rounds(name, 161, COUNTS, |tally, random, n| {
         let any = random.number(1, u16::MAX);
-        let name = random.pick(&[1, 255, 256, any, u16::MAX]);
+        let name = random.pick(&[1, 255, 256, 2047, 2048, any, u16::MAX]);
         compare_pairs(tally, &some_plan(n, random).rooms(), name);
     });
     let pairs = COUNTS.map(|n| n * (n - 1) / 2).iter().sum();
