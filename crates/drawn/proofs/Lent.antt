@@ -1,5 +1,6 @@
--- What the walks share of the functions that take a record, a slice for labels and a slice for rooms as structs, and give the two slices on to callees for good: what is had at entry, how they end, and that such a
--- walk proves the contract. The result's type and the clauses are any.
+-- What the walks share of the functions that take a record, a slice for labels and a slice for rooms as structs, and give the two slices on
+-- to callees for good: what is had at entry, how they end, and that such a walk proves the contract. The result's type and the clauses are
+-- any.
 use mathlib.Core.List.{List, [], _∷_}
 use mathlib.Core.Path.{_≡_}
 use Prim.Native.Nat.{ℕ}

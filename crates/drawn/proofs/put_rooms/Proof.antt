@@ -1,6 +1,7 @@
--- `drawn::put_rooms` meets its contract: a walk of its MIR, by hand, with one loop. The lent slice of structs is opened once, before the loop, and closed once, after it; in between its elements are the function's own.
--- A turn calls `room_from` with copies of the four `&`s, takes one element out, stores the room's sides in it and puts it back. After i turns the first i elements are the first i rooms, and the rest is as it was.
--- Assumes nothing.
+-- `drawn::put_rooms` meets its contract: a walk of its MIR, by hand, with one loop. The lent slice of structs is opened once, before the
+-- loop, and closed once, after it; in between its elements are the function's own. A turn calls `room_from` with copies of the four `&`s,
+-- takes one element out, stores the room's five numbers in it and puts it back. After i turns the first i elements are the first i rooms, and the
+-- rest is as it was. Assumes nothing.
 use mathlib.Core.Path.{_≡_, refl, sym, ap, subst}
 use Prim.Native.Nat.{ℕ, suc, _+_, _-_, _*_, _<_, _≤_, _^_, zero-le}
 use native.Mathlib.Nat.{eq-or-lt-of-le}
@@ -255,7 +256,8 @@ module _ {M : Type 1} (𝓤 : URA M) (H : Heap 𝓤) (A : Atoms 𝓤) (W : Given
           rewrite ! 0 (λ (vs : List Val). ‵ (R.the-row .own (f i) vs)) (LL.tells R.the-type R′.the-laws (f i) (v ∷ []) is) refl $
           move ! (3 ∷ []) $
           elem-out ! R.the-row (Is R.the-row) (shows 𝓤 H A R.the-row) (LL.vals R.the-type R′.the-laws) (LL.tells R.the-type R′.the-laws) fullShare (filled f i ys) i (f i) b o inside (λ _.
-          -- [rooms[i]; what it owned; the others; the room; the token; the arrays; _7; …; _15; _1; …; _6; _0; …]: its four sides and its name
+          -- [rooms[i]; what it owned; the others; the room; the token; the arrays; _7; …; _15; _1; …; _6; _0; …]: its four sides and its
+          -- name
           assigns ! (bin ! (load ! (from ! (stop !)) (look ! 6 refl)) (lit ! tt) (record { fits = far })) (from ! (stop !)) (init ! 9 refl (tt, record { fits = far })) $
           assigns ! (bin ! (load ! (from ! (fld ! refl (stop !))) (look-in ! 20 (sub ! 0 refl (whole !)))) (load ! (from ! (stop !)) (look ! 9 refl)) tt) (from ! (stop !)) (init ! 10 refl (tt, tt)) $
           rewrite ! 10 (λ (p : ℕ). ‵ (fat fullShare tyPtr l₁₁ 0 (vptr b p))) (sym (place-is 10 o i)) refl $

@@ -1,6 +1,7 @@
--- `drawn::record_in` meets its contract: a walk of its MIR, by hand, with no branch and no loop. The four arrays are lent to `read_corners`, with the labels' slice, which is given to it for good; they come back with
--- the drawing of the record, where it is read. Then they are lent to `put_rooms`, to which the rooms' slice is given for good, and which writes as many rooms as the answer says: none on a refusal.
--- Assumes nothing.
+-- `drawn::record_in` meets its contract: a walk of its MIR, by hand, with no branch and no loop. The four arrays are lent to
+-- `read_corners`, with the labels' slice, which is given to it for good; they come back with the drawing of the record, where it is read.
+-- Then they are lent to `put_rooms`, to which the rooms' slice is given for good, and which writes as many rooms as the answer says: none
+-- on a refusal. Assumes nothing.
 use mathlib.Core.Path.{_≡_, refl, sym, ap, subst}
 use Prim.Native.Nat.{ℕ, _<_, _≤_, _^_}
 use mathlib.Core.List.{List, [], _∷_, _++_}
@@ -256,7 +257,8 @@ module _ {M : Type 1} (𝓤 : URA M) (H : Heap 𝓤) (A : Atoms 𝓤) (W : Given
         -- [the `&mut`s; the lenders' parts; their tokens; _0; …]
         move ! (48 ∷ []) $ fsplit ! $ use1 W (‵ (OwnS d) ⊛ ‵ (OwnS d)) (shr-slice-copy 𝓤 H A W (named 0) (d .κ) u8 .twice (d .x) (u d ∷ [])) $ split ! $ move ! (2 ∷ []) $ fsplit ! $
         move ! (51 ∷ []) $ split ! $ move ! (1 ∷ []) $ split ! $
-        -- [the labels' token; the rooms' token; the record's; the labels'; the rooms'; the record's, twice; the `&mut`s; the lenders' parts; their tokens; _0; …]
+        -- [the labels' token; the rooms' token; the record's; the labels'; the rooms'; the record's, twice; the `&mut`s; the lenders'
+        -- parts; their tokens; _0; …]
         move ! (0 ∷ 9 ∷ []) $ join ! $ move ! (2 ∷ 0 ∷ []) $ join ! $ move ! (0 ∷ 4 ∷ 2 ∷ 6 ∷ []) $ group ! 4 $
         use1 W (raw (ReadCorners 𝓤 H A mem run .pre (to-read (locals l₄ l₅ l₆ l₇) a))) (goes-read (locals l₄ l₅ l₆ l₇) a (fit .g₂ .0)) $
         -- [what the call takes; the rooms' token; the rooms'; the record's; the lenders' parts; _0; …; _3; _8; …]
@@ -264,34 +266,41 @@ module _ {M : Type 1} (𝓤 : URA M) (H : Heap 𝓤) (A : Atoms 𝓤) (W : Given
         (and-then ! (load ! (from ! (stop !)) (look ! 6 refl)) (and-then ! (load ! (from ! (stop !)) (look ! 12 refl)) (and-then ! (load ! (from ! (stop !)) (look ! 13 refl)) (and-then ! (load ! (from ! (stop !)) (look ! 14 refl))
         (and-then ! (load ! (from ! (stop !)) (look ! 15 refl)) (and-then ! (load ! (from ! (stop !)) (look ! 16 refl)) (and-then ! (load ! (from ! (stop !)) (look ! 17 refl)) (no-more !)))))))) (λ v.
         use1 W (later (some (Left (locals l₄ l₅ l₆ l₇) a v))) (gives-read (locals l₄ l₅ l₆ l₇) a v) $ await ! tt $ pick ! (λ e. split ! $ move ! (1 ∷ []) $ split ! $
-        -- [the answer; the last labels and arrays; the tokens; the rooms' token; the rooms'; the record's; the lenders' parts; _0; …; _3; _8; …]
+        -- [the answer; the last labels and arrays; the tokens; the rooms' token; the rooms'; the record's; the lenders' parts; _0; …; _3;
+        -- _8; …]
         peeks ! E.the-row (Is E.the-row) (shows 𝓤 H A E.the-row) (e .r) (v ∷ []) (λ is. land ! (from ! (stop !)) (init ! 11 refl (EL.lawful E.the-type E′.the-laws 𝓤 H A W tt .typed (e .r) _ is .0)) $
         move ! (1 ∷ []) $ split ! $ move ! (3 ∷ []) $ split ! $ move ! (1 ∷ []) $ split ! $
-        -- [the labels' token; the arrays' tokens; the record's token; the last labels; the last arrays; the answer; the rooms' token; the rooms'; the record's; the lenders' parts; _0; …]
+        -- [the labels' token; the arrays' tokens; the record's token; the last labels; the last arrays; the answer; the rooms' token; the
+        -- rooms'; the record's; the lenders' parts; _0; …]
         move ! (1 ∷ 9 ∷ 4 ∷ []) $ use3 W (later (Parts 𝓤 (locals l₄ l₅ l₆ l₇) (e .w))) (back-four 𝓤 H A W (locals l₄ l₅ l₆ l₇) (e .w) a) $ await ! tt $
-        -- [the arrays; the labels' token; the record's; the last labels; the answer; the rooms' token; the rooms'; the record's; _0; …; _3; _8; …]: the second call
+        -- [the arrays; the labels' token; the record's; the last labels; the answer; the rooms' token; the rooms'; the record's; _0; …; _3;
+        -- _8; …]: the second call
         owned ! E.the-row (Is E.the-row) (EL.makes E.the-type E′.the-plain 𝓤 H A) (e .r) _ is $ use1 W (raw (Count 𝓤 H A mem run .pre (to-count (e .r) v))) (goes-count (e .r) v) $
         calls-at ! (fmOf 𝓤 H (W .laws) 𝓣) (Count 𝓤 H A mem run) known-c (to-count (e .r) v) (and-then ! (load ! (from ! (stop !)) (look ! 13 refl)) (no-more !)) (λ t.
         use1 W (later (‵ (usize .own (countOf (e .r)) (t ∷ [])))) (gives-count (e .r) v t) $ await ! tt $ peeks ! usize (Is usize) (shows 𝓤 H A usize) (countOf (e .r)) (t ∷ []) (λ is-n.
         land ! (from ! (stop !)) (init ! 14 refl (uint-lawful 𝓤 H A W w64 .typed (countOf (e .r)) _ is-n .0)) $
-        -- [the number; the arrays; the labels' token; the record's; the last labels; the answer; the rooms' token; the rooms'; the record's; _0; …; _3; _8; …]: what the third call takes
+        -- [the number; the arrays; the labels' token; the record's; the last labels; the answer; the rooms' token; the rooms'; the
+        -- record's; _0; …; _3; _8; …]: what the third call takes
         assigns ! (addr ! (from ! (stop !))) (from ! (stop !)) (init ! 23 refl (tt, tt)) $ assigns ! (addr ! (from ! (stop !))) (from ! (stop !)) (init ! 24 refl (tt, tt)) $
         assigns ! (addr ! (from ! (stop !))) (from ! (stop !)) (init ! 25 refl (tt, tt)) $ assigns ! (addr ! (from ! (stop !))) (from ! (stop !)) (init ! 26 refl (tt, tt)) $
         assigns ! (addr ! (from ! (fld ! refl (hop ! (look-in ! 12 (sub ! 0 refl (whole !))) (stop !))))) (from ! (stop !)) (init ! 27 refl (tt, tt)) $
         assigns ! (agg ! (and-then ! (load ! (from ! (stop !)) (look ! 27 refl)) (and-then ! (load ! (from ! (fld ! refl (stop !))) (look-in ! 12 (sub ! 1 refl (whole !)))) (no-more !)))) (from ! (stop !)) (init ! 28 refl (tt, (tt, (record { fits = fit .g₂ .0 }, tt)))) $
         move ! (1 ∷ []) $ use1 W (later (some (λ (b : Shared). ‵ (flft (b .β ∷ []) fullShare) ⊛ (Shrs 𝓤 (b .β ∷ []) (refs (locals l₄ l₅ l₆ l₇) (e .w) b) ⊛ Sharers 𝓤 (locals l₄ l₅ l₆ l₇) (e .w) b)))) (shares-four 𝓤 H A W (locals l₄ l₅ l₆ l₇) (e .w)) $ await ! tt $ pick ! (λ b. split ! $ move ! (1 ∷ []) $ split ! $
-        -- [the `&`s; the lenders' parts; their token; the number; the labels' token; the record's; the last labels; the answer; the rooms' token; the rooms'; the record's; _0; …; _3; _8; …]
+        -- [the `&`s; the lenders' parts; their token; the number; the labels' token; the record's; the last labels; the answer; the rooms'
+        -- token; the rooms'; the record's; _0; …; _3; _8; …]
         move ! (2 ∷ 8 ∷ []) $ join ! $ move ! (0 ∷ 1 ∷ 3 ∷ 8 ∷ []) $ group ! 4 $ use1 W (raw (PutRooms 𝓤 H A mem run .pre (to-put (locals l₄ l₅ l₆ l₇) (e .w) b (countOf (e .r)) t))) (goes-put (locals l₄ l₅ l₆ l₇) (e .w) b (countOf (e .r)) t (e .did .few, e .did .fit)) $
         calls-at ! (fmOf 𝓤 H (W .laws) 𝓣) (PutRooms 𝓤 H A mem run) known-p (to-put (locals l₄ l₅ l₆ l₇) (e .w) b (countOf (e .r)) t)
         (and-then ! (load ! (from ! (stop !)) (look ! 21 refl)) (and-then ! (load ! (from ! (stop !)) (look ! 22 refl)) (and-then ! (load ! (from ! (stop !)) (look ! 23 refl)) (and-then ! (load ! (from ! (stop !)) (look ! 24 refl))
         (and-then ! (load ! (from ! (stop !)) (look ! 12 refl)) (and-then ! (load ! (from ! (stop !)) (look ! 26 refl)) (no-more !))))))) (λ z.
         use1 W (later (given ((z ≡ vunit) × (length (out (locals l₄ l₅ l₆ l₇) (e .w) b (countOf (e .r)) t) ≡ places)) (‵ (flft (b .β ∷ []) fullShare) ⊛ (RoomsToken d 𝓤 ⊛ ‵ (finally R.the-row (d .y₂ .name) (out (locals l₄ l₅ l₆ l₇) (e .w) b (countOf (e .r)) t))))))
         (gives-put (locals l₄ l₅ l₆ l₇) (e .w) b (countOf (e .r)) t z) $ await ! tt $ learn ! (λ h. split ! $
-        -- [the arrays' token; the rooms' token and the last rooms; the lenders' parts; the labels' token; the record's; the last labels; the answer; the record's; _0; …; _3; _8; …]
+        -- [the arrays' token; the rooms' token and the last rooms; the lenders' parts; the labels' token; the record's; the last labels;
+        -- the answer; the record's; _0; …; _3; _8; …]
         land ! (from ! (stop !)) (init ! 21 refl (subst (λ (y : Val). T (hasTy tyUnit y) × WT y) (sym (h .0)) (tt, tt))) $
         assigns ! (of-opd ! (load ! (from ! (stop !)) (look ! 12 refl))) (from ! (stop !)) (init ! 8 refl (EL.lawful E.the-type E′.the-laws 𝓤 H A W tt .typed (e .r) _ is .0)) $
         move ! (0 ∷ 2 ∷ []) $ use2 W (later (Rooms 𝓤 (locals l₄ l₅ l₆ l₇))) (rooms-four 𝓤 H A W (locals l₄ l₅ l₆ l₇) (e .w) b) $ await ! tt $ split ! $ move ! (1 ∷ []) $ split ! $ move ! (1 ∷ []) $ split ! $
-        -- [_6; _7; _5; _4; the rooms' token and the last rooms; the labels' token; the record's; the last labels; the answer; the record's; _0; …; _3; _8; …]
+        -- [_6; _7; _5; _4; the rooms' token and the last rooms; the labels' token; the record's; the last labels; the answer; the record's;
+        -- _0; …; _3; _8; …]
         move ! (10 ∷ 11 ∷ 12 ∷ 13 ∷ 3 ∷ 2 ∷ 0 ∷ 1 ∷ []) $
         returns ! (look ! 0 refl) $
         forget ! 0 refl $ forget ! 1 refl $ forget ! 2 refl $ forget ! 3 refl $ forget ! 14 refl $ forget ! 15 refl $ forget ! 16 refl $ forget ! 17 refl $ forget ! 18 refl $ forget ! 19 refl $

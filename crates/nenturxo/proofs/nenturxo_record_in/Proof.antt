@@ -1,6 +1,6 @@
--- `nenturxo::nenturxo_record_in` meets its contract: a walk of its MIR, by hand, with no branch and no loop: the record is lent on to `drawn::record_in`, of which a copy is kept, and the two output slices are
--- given to it for good. Its answer, whose rooms are at most 255, is what `record_code` makes the number of.
--- Assumes nothing.
+-- `nenturxo::nenturxo_record_in` meets its contract: a walk of its MIR, by hand, with no branch and no loop: the record is lent on to
+-- `drawn::record_in`, of which a copy is kept, and the two output slices are given to it for good. Its answer, whose rooms are at most 255,
+-- is what `record_code` makes the number of. Assumes nothing.
 use mathlib.Core.Path.{_≡_, refl}
 use Prim.Native.Nat.{ℕ}
 use mathlib.Core.List.{List, [], _∷_}

@@ -1,4 +1,5 @@
--- `nenturxo::record_code` meets its contract: the answer of Record in, as a number. There are at most 255 rooms by the contract, so the number fits.
+-- `nenturxo::record_code` meets its contract: the answer of Record in, as a number. There are at most 255 rooms by the contract, so the
+-- number fits.
 use mathlib.Core.Path.{sym, ap, subst, _∙_}
 use native.Mathlib.Omega.{arith}
 use borrow.Author.Needs.{needs}
