@@ -9,7 +9,7 @@ ghost use Rattle.naming.specs.Twice.{Twice, Again};
 ghost use Rattle.naming.specs.BitTable.{bitOf, withBit};
 ghost use Rattle.naming.specs.Seen.{bitFor};
 
-// ---- few names, pair by pair
+// ---- pair by pair
 
 // 1 where two names are the same, else 0.
 fn same(first: u16, second: u16) -> u16
@@ -53,7 +53,7 @@ fn twice_in_pairs(names: &[u16]) -> bool
     false
 }
 
-// ---- many names, in a table of bits
+// ---- in a table of bits
 
 // 1 for a name, 0 for none.
 fn named(name: u16) -> u64
