@@ -3,3 +3,4 @@ pub mod Digit
 pub mod Put
 pub mod Word
 pub mod WordGroup
+pub mod Eight

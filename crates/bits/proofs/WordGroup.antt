@@ -20,7 +20,7 @@ at k = 3 * k / 8
 abbrev lowest : ℕ → ℕ
 lowest k = 13 - 3 * k % 8
 
-bit-of-digit : (n : ℕ) → n < 2 → bit (eqb n 1) ≡ n
+pub bit-of-digit : (n : ℕ) → n < 2 → bit (eqb n 1) ≡ n
 bit-of-digit zero h = refl
 bit-of-digit (suc zero) h = refl
 bit-of-digit (suc (suc n)) h = absurd (omega arith)

@@ -2,3 +2,4 @@
 pub mod Bit
 pub mod Pack
 pub mod Word
+pub mod Eight

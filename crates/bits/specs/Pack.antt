@@ -138,6 +138,13 @@ pub take-pack : (b : ℕ → Bool) (m k : ℕ) → k ≤ m → take k (pack b m)
 unfolding pack
 take-pack b m k h = take-table (λ j. byteOf (λ i. b (8 * j + i))) m k h
 
+-- past the end no bit is set
+pub bitAt-past : (bytes : List ℕ) (i : ℕ) → 8 * length bytes ≤ i → bitAt bytes i ≡ false
+unfolding bitAt bitIn
+bitAt-past bytes i h =
+    let none : getD bytes (i / 8) 0 ≡ 0 = List·getD-eq-default bytes 0 (omega arith) in
+    rw (none, zero-div (2 ^ (7 - i % 8)))
+
 -- bytes that are 0
 pub zeros-at : (n i : ℕ) → getD {A = ℕ} (replicate n 0) i 0 ≡ 0
 zeros-at zero i = refl

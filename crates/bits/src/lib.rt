@@ -1,10 +1,11 @@
-// Groups of three bits in a slice of bytes, the highest bit of a byte first: one group read, and one group set.
+// Groups of three bits in a slice of bytes, the highest bit of a byte first: one group read, and one group set; or eight groups read.
 // A group lies in one byte or crosses into the next. Either way it is shifted and masked in a word of 16 bits.
 ghost use mathlib.Core.Path.{_≡_};
 ghost use Prim.Native.Nat.{_+_, _*_, _<_, _≤_};
 ghost use lib.ListN.{length};
 ghost use Rattle.bits.specs.Bit.{groupAt, GroupSet};
 ghost use Rattle.bits.specs.Word.{Shows, Stored};
+ghost use Rattle.bits.specs.Eight.{groupOfWord, EightGroups};
 
 // A byte as a word.
 fn wide(byte: u8) -> u16
@@ -55,4 +56,34 @@ pub fn set_group(bytes: &mut [u8], k: usize, value: u8)
     let up = 13 - 3 * k % 8;
     let kept = load(bytes, at, up) & !(7 << up);
     store(bytes, at, up, kept | (wide(value) << up));
+}
+
+// A byte as a number of 32 bits.
+fn broad(byte: u8) -> u32
+    ensures { λ r. ⌜ (r ≡ byte) × (r < 256) ⌝ }
+{
+    byte as u32
+}
+
+// The eight groups from group 8m on, in a word of 24 bits; past the end of the bytes they are 0. Where fewer than three bytes are left,
+// the last one counts if it is the second: a product, and no jump, which could not be foreseen.
+pub fn eight_groups(bytes: &[u8], m: usize) -> u32
+    requires { ⌜ (3 * m < length (now bytes)) × (length (now bytes) ≤ 65535) ⌝ }
+    ensures { λ r. ⌜ EightGroups (now (bytes .entry)) m r ⌝ }
+{
+    let at = 3 * m;
+    let left = bytes.len() - at;
+    let high = broad(bytes[at]) * 65536;
+    if 2 < left {
+        return high + broad(bytes[at + 1]) * 256 + broad(bytes[at + 2]);
+    }
+    high + broad(bytes[bytes.len() - 1]) * 256 * ((left - 1) as u32)
+}
+
+// Group i of such a word, a number from 0 to 7.
+pub fn group_of_word(word: u32, i: usize) -> u8
+    requires { ⌜ i < 8 ⌝ }
+    ensures { λ r. ⌜ (r ≡ groupOfWord word i) × (r < 8) ⌝ }
+{
+    ((word >> (21 - 3 * i)) & 7) as u8
 }

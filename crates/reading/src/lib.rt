@@ -1,31 +1,11 @@
 // Reading a record: its labels, or the refusal 9, 10, 11, 14, 12 or 13, in this order.
 ghost use mathlib.Core.Path.{_≡_};
-ghost use mathlib.Core.Bool.{true};
-ghost use Prim.Native.Nat.{_+_, _*_, _/_, _≤_, _<_};
+ghost use Prim.Native.Nat.{_≤_, _<_};
 ghost use lib.ListN.{length};
-ghost use Rattle.finite.specs.Decide.{Tells};
-ghost use Rattle.finite.specs.Search.{Some};
-ghost use Rattle.bits.specs.Bit.{bitAt};
 ghost use Rattle.backward.specs.Written.{Written};
 ghost use Rattle.reading.specs.Answer.{readingOf, Reads, Ready, triplesOf, Leaves};
+use judging::Checked;
 use record::Refusal;
-use steps::RunCounts;
-
-// Whether a bit after the first `used` is set. They are the low bits of the last byte.
-fn spare_bit(body: &[u8], used: usize) -> bool
-    requires { ⌜ (used ≤ 765) × (length (now body) ≡ (used + 7) / 8) ⌝ }
-    ensures { λ r. ⌜ Tells r (Some (λ i. bitAt (now (body .entry)) i ≡ true) used (8 * length (now (body .entry)))) ⌝ }
-{
-    let spare = 8 * body.len() - used;
-    if spare == 0 {
-        return false;
-    }
-    let last = steps::wide(body[body.len() - 1]);
-    if (last >> spare) << spare == last {
-        return false;
-    }
-    true
-}
 
 // What reading a record answers: how many labels it gives, or why not.
 pub enum Reading {
@@ -48,35 +28,14 @@ fn check(
     ensures notes { λ r. ⌜ Reads r (now («record» .entry))
         (now (triples .exit)) (now (lower .exit)) (now (left .exit)) (now (bottom .exit)) ⌝ }
 {
-    if record.len() == 0 {
-        return Reading::Refused(Refusal::NoKind);
-    }
-    let n = steps::wide(record[0]);
-    if n == 0 {
-        return Reading::Refused(Refusal::NoKind);
-    }
-    let used = 3 * n - 3;
-    let size = (used + 7) / 8;
-    let body = &record[1..];
-    if body.len() < size {
-        return Reading::Refused(Refusal::ShortBody);
-    }
-    if size < body.len() {
-        return Reading::Refused(Refusal::BytesAfter);
-    }
-    if spare_bit(body, used) {
-        return Reading::Refused(Refusal::SpareBit);
-    }
-    match forward::walk(body, n, triples, lower, left, bottom) {
-        RunCounts::Missing => Reading::Refused(Refusal::MissingRun),
-        RunCounts::Counted(below, above) => {
-            if below != 0 {
-                return Reading::Refused(Refusal::SeveralRuns);
+    match judging::check_body(record) {
+        Checked::Refused(refusal) => Reading::Refused(refusal),
+        Checked::Passed(n) => {
+            let counts = forward::walk(&record[1..], n, triples, lower, left, bottom);
+            match judging::check_end(counts, n) {
+                Checked::Refused(refusal) => Reading::Refused(refusal),
+                Checked::Passed(rooms) => Reading::Read(rooms),
             }
-            if above != 0 {
-                return Reading::Refused(Refusal::SeveralRuns);
-            }
-            Reading::Read(n)
         }
     }
 }

@@ -31,5 +31,7 @@ pub mod Demand2Read
 -- A triple set in a record
 pub mod TripleSet
 pub mod M104
+-- Rises and falls
+pub mod Rises
 -- Worked plans
 pub mod Worked

@@ -2,7 +2,7 @@
 -- Where it lies above the current run, that run is one more below it; where it lies below, one more above it.
 use mathlib.Core.Bool.{true, false}
 use mathlib.Core.List.{List}
-use mathlib.Core.Logic.{inl, inr}
+use mathlib.Core.Logic.{_≢_, inl, inr}
 use mathlib.Core.Path.{_≡_, refl, sym, ap, ap₂, _∙_}
 use Prim.Native.Nat.{ℕ, zero, suc, _+_, _≤_, _<_}
 use native.Mathlib.Omega.{arith}
@@ -113,3 +113,13 @@ rows (triple false true true) zero q x y e f = less-below x y (omega arith)
 rows (triple false true true) (suc p) q x y e f = less-is (omega arith) (omega arith)
 rows (triple true true true) zero q x y e f = less-below x y (omega arith)
 rows (triple true true true) (suc p) q x y e f = less-is (omega arith) (omega arith)
+
+-- the last row is that of the number that is none of 0 to 6
+pub seven : (x : ℕ) → x < 8 → (x ≢ 0) → (x ≢ 1) → (x ≢ 2) → (x ≢ 3) → (x ≢ 4) → (x ≢ 5) → (x ≢ 6) → x ≡ 7
+seven x h a b c d e f g = last x h (four x a b c d) e f g
+  where
+    four : (x : ℕ) → (x ≢ 0) → (x ≢ 1) → (x ≢ 2) → (x ≢ 3) → 4 ≤ x
+    four x a b c d = omega arith
+
+    last : (x : ℕ) → x < 8 → 4 ≤ x → (x ≢ 4) → (x ≢ 5) → (x ≢ 6) → x ≡ 7
+    last x h l e f g = omega arith

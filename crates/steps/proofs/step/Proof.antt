@@ -1,26 +1,14 @@
 -- `steps::step` meets its contract: an arm is a row of the table.
 use mathlib.Core.Bool.{true, false}
-use mathlib.Core.Logic.{_≢_}
 use mathlib.Core.Path.{_≡_}
-use Prim.Native.Nat.{ℕ, _≤_, _<_}
 use native.Mathlib.Omega.{arith}
 use Rattle.record.specs.Triple.{triple}
-use Rattle.steps.specs.Table.{rows}
+use Rattle.steps.specs.Table.{rows, seven}
 use borrow.Author.Needs.{needs}
 use Rattle.steps.proofs.step.Statement.{statement}
 use Rattle.steps.proofs.step.Tie as tie
 use Rattle.steps.proofs.step.Reads as reads
 use Rattle.steps.proofs.step.Lts as lts
-
--- the number that is none of 0 to 6
-seven : (x : ℕ) → x < 8 → (x ≢ 0) → (x ≢ 1) → (x ≢ 2) → (x ≢ 3) → (x ≢ 4) → (x ≢ 5) → (x ≢ 6) → x ≡ 7
-seven x h a b c d e f g = last x h (four x a b c d) e f g
-  where
-    four : (x : ℕ) → (x ≢ 0) → (x ≢ 1) → (x ≢ 2) → (x ≢ 3) → 4 ≤ x
-    four x a b c d = omega arith
-
-    last : (x : ℕ) → x < 8 → 4 ≤ x → (x ≢ 4) → (x ≢ 5) → (x ≢ 6) → x ≡ 7
-    last x h l e f g = omega arith
 
 rest : (c : lts.At-match-rest reads.Pre reads.Post) → c .before .args .triple ≡ 7
 rest c =

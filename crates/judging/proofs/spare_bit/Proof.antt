@@ -1,8 +1,8 @@
 use native.Mathlib.Omega.{arith}
-use Rattle.reading.proofs.Spare.{none-spare, some-spare}
+use Rattle.judging.proofs.Spare.{none-spare, some-spare}
 use borrow.Author.Needs.{needs}
-use Rattle.reading.proofs.spare_bit.Statement.{statement}
-use Rattle.reading.proofs.spare_bit.Tie as tie
+use Rattle.judging.proofs.spare_bit.Statement.{statement}
+use Rattle.judging.proofs.spare_bit.Tie as tie
 
 mul-spare : tie.Need-mul-spare
 mul-spare c = search needs

@@ -1,0 +1,5 @@
+-- Judging a record.
+pub mod Judge
+pub mod Packed
+-- Laws of the checks, which reading the labels cites too
+pub mod Passed
