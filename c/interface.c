@@ -705,6 +705,308 @@ static void test_pattern(void) {
     test_long_lists();
 }
 
+/* ---- Books */
+
+/* A book with its summary, as a user has it. */
+typedef struct {
+    uint8_t bytes[40];
+    size_t used;
+    uint32_t totals[4];
+} small_book;
+
+/* One room, two rooms side by side, and the sheet's pinwheel, whose four
+ * triples have the third bits 1 0 0 1. */
+static const uint8_t three_records[] = {0x01, 0x02, 0x40, 0x05, 0x31, 0x70};
+
+static void start_three(small_book *book) {
+    const uint32_t totals[] = {3, 8, 3, 2};
+    memset(book, UNTOUCHED, sizeof *book);
+    memcpy(book->bytes, three_records, sizeof three_records);
+    book->used = sizeof three_records;
+    memcpy(book->totals, totals, sizeof totals);
+}
+
+/* The totals stand in four numbers of their own, each between two others that
+ * stay as they were. */
+static int32_t add_with(uint8_t *bytes, size_t lent, size_t used, const uint8_t *record,
+                        size_t length, uint32_t *totals) {
+    uint32_t apart[9];
+    int32_t code;
+    int i;
+    memset(apart, UNTOUCHED, sizeof apart);
+    for (i = 0; i < 4; i++) {
+        apart[2 * i + 1] = totals[i];
+    }
+    code = nenturxo_book_add(bytes, lent, used, record, length, &apart[1], &apart[3], &apart[5],
+                             &apart[7]);
+    for (i = 0; i < 4; i++) {
+        CHECK(all_untouched(&apart[2 * i], sizeof *apart));
+        totals[i] = apart[2 * i + 1];
+    }
+    CHECK(all_untouched(&apart[8], sizeof *apart));
+    return code;
+}
+
+/* The addition is refused so, and neither the bytes nor the totals change. */
+static void refuses_addition(const small_book *book, size_t lent, const uint8_t *record,
+                             size_t length, int refusal, int ordinal) {
+    small_book after = *book;
+    int32_t code = add_with(after.bytes, lent, after.used, record, length, after.totals);
+    CHECK(code == -(refusal + 256 * ordinal));
+    CHECK(NENTURXO_BOOK_REFUSAL(code) == refusal);
+    CHECK(NENTURXO_BOOK_ORDINAL(code) == ordinal);
+    CHECK(memcmp(after.bytes, book->bytes, sizeof after.bytes) == 0);
+    CHECK(memcmp(after.totals, book->totals, sizeof after.totals) == 0);
+}
+
+/* From an empty book on, in a slice that is just long enough in the end. */
+static void test_building(void) {
+    const size_t lengths[] = {1, 2, 3};
+    const uint32_t totals[][4] = {{1, 1, 0, 0}, {2, 3, 1, 0}, {3, 8, 3, 2}};
+    small_book book;
+    size_t i, lent = sizeof three_records;
+
+    memset(&book, UNTOUCHED, sizeof book);
+    memset(book.totals, 0, sizeof book.totals);
+    book.used = 0;
+    for (i = 0; i < COUNT(lengths); i++) {
+        const uint8_t *record = three_records + book.used;
+        int32_t code = add_with(book.bytes, lent, book.used, record, lengths[i], book.totals);
+        CHECK(code == (int32_t)(book.used + lengths[i]));
+        book.used += lengths[i];
+        CHECK(memcmp(book.bytes, three_records, book.used) == 0);
+        CHECK(all_untouched(book.bytes + book.used, sizeof book.bytes - book.used));
+        CHECK(memcmp(book.totals, totals[i], sizeof totals[i]) == 0);
+    }
+}
+
+/* As a user reads a book: on by what each call gives, until that is 0. */
+static void test_reading(void) {
+    const int32_t lengths[] = {1, 2, 3};
+    small_book book;
+    size_t place = 0, records = 0;
+    int32_t length;
+
+    start_three(&book);
+    while ((length = nenturxo_book_next(book.bytes, sizeof book.bytes, book.used, place)) > 0) {
+        CHECK(records < COUNT(lengths) && length == lengths[records]);
+        CHECK(nenturxo_tree(book.bytes + place, (size_t)length, never_written, 0) ==
+              (records < 2 ? -NENTURXO_SLICE_SHORT : -NENTURXO_NOT_SLICING));
+        place += (size_t)length;
+        records++;
+    }
+    CHECK(length == 0);
+    CHECK(records == 3);
+    CHECK(place == book.used);
+    CHECK(memcmp(book.bytes, three_records, sizeof three_records) == 0);
+    CHECK(all_untouched(book.bytes + book.used, sizeof book.bytes - book.used));
+
+    /* an empty book ends where it begins, in an empty slice too */
+    CHECK(nenturxo_book_next(book.bytes, sizeof book.bytes, 0, 0) == 0);
+    CHECK(nenturxo_book_next(book.bytes, 0, 0, 0) == 0);
+    /* the second record may be the last one, and the slice longer or not */
+    CHECK(nenturxo_book_next(book.bytes, 3, 3, 1) == 2);
+    CHECK(nenturxo_book_next(book.bytes, 3, 3, 3) == 0);
+}
+
+/* A bad record, and its refusal in a book. */
+typedef struct {
+    uint8_t bytes[2];
+    size_t length;
+    int refusal;
+} bad_record;
+
+static const bad_record bad_records[] = {
+    {{0x00, 0x00}, 1, NENTURXO_NO_KIND},     {{0x05, 0x31}, 2, NENTURXO_BODY_SHORT},
+    {{0x02, 0x00}, 1, NENTURXO_BODY_SHORT},  {{0x02, 0xC1}, 2, NENTURXO_SPARE_BIT},
+    {{0x02, 0x60}, 2, NENTURXO_RUN_MISSING}, {{0x02, 0x00}, 2, NENTURXO_RUNS_LEFT},
+};
+
+/* Each bad record as the fourth of a book and as the only one: with its ordinal
+ * where a record is added, before 23, the refusals of that record and 15; and
+ * with ordinal 1 where it is read. */
+static void test_bad_records(void) {
+    const uint8_t one[] = {0x01}, no_kind[] = {0x00};
+    small_book book;
+    size_t i;
+
+    for (i = 0; i < COUNT(bad_records); i++) {
+        const bad_record *bad = &bad_records[i];
+        const int32_t as_first = -(bad->refusal + 256);
+        start_three(&book);
+        memcpy(book.bytes + book.used, bad->bytes, bad->length);
+        book.used += bad->length;
+        refuses_addition(&book, sizeof book.bytes, one, 1, bad->refusal, 4);
+        refuses_addition(&book, book.used, no_kind, 1, bad->refusal, 4);
+        book.totals[0]++;
+        refuses_addition(&book, sizeof book.bytes, one, 1, bad->refusal, 4);
+        CHECK(nenturxo_book_next(book.bytes, sizeof book.bytes, book.used, 6) == as_first);
+        CHECK(nenturxo_book_next(book.bytes, book.used, book.used, 6) == as_first);
+        CHECK(nenturxo_book_next(book.bytes, book.used, book.used, 3) == 3);
+
+        memcpy(book.bytes, bad->bytes, bad->length);
+        book.used = bad->length;
+        refuses_addition(&book, sizeof book.bytes, one, 1, bad->refusal, 1);
+        CHECK(nenturxo_book_next(book.bytes, sizeof book.bytes, book.used, 0) == as_first);
+    }
+    /* the first of two counts */
+    start_three(&book);
+    book.bytes[2] = 0x60;
+    book.bytes[3] = 0x00;
+    refuses_addition(&book, sizeof book.bytes, one, 1, NENTURXO_RUN_MISSING, 2);
+}
+
+/* Each total by itself, one more or less or by a high bit, and two that make up
+ * for each other; 23 comes before the refusals of the added record and 15. */
+static void test_summaries(void) {
+    const uint8_t one[] = {0x01}, no_kind[] = {0x00};
+    const uint32_t changes[] = {1, UINT32_MAX, 0x10000, 0x80000000u};
+    small_book book;
+    size_t i, j;
+
+    for (i = 0; i < 4; i++) {
+        for (j = 0; j < COUNT(changes); j++) {
+            start_three(&book);
+            book.totals[i] += changes[j];
+            refuses_addition(&book, sizeof book.bytes, one, 1, NENTURXO_SUMMARY_DIFFERS, 0);
+            refuses_addition(&book, sizeof book.bytes, no_kind, 1, NENTURXO_SUMMARY_DIFFERS, 0);
+            refuses_addition(&book, book.used, one, 1, NENTURXO_SUMMARY_DIFFERS, 0);
+            book.totals[(i + 1) % 4] -= changes[j];
+            refuses_addition(&book, sizeof book.bytes, one, 1, NENTURXO_SUMMARY_DIFFERS, 0);
+        }
+    }
+}
+
+/* The added record is judged whole, and has no ordinal. Its refusals come before
+ * 15, and 15 is for a slice that lacks one byte or all. */
+static void test_added_records(void) {
+    const uint8_t no_kind[] = {0x00}, body_short[] = {0x02}, after[] = {0x01, 0x00};
+    const uint8_t spare[] = {0x02, 0xC1}, missing[] = {0x02, 0x60}, left_over[] = {0x02, 0x00};
+    const uint8_t falling[] = {0x02, 0xA0};
+    const uint32_t totals[] = {4, 10, 3, 3};
+    uint8_t longer[NENTURXO_RECORD_CAPACITY + 1] = {255};
+    small_book book;
+    size_t lent;
+
+    start_three(&book);
+    for (lent = book.used; lent <= sizeof book.bytes; lent += sizeof book.bytes - book.used) {
+        refuses_addition(&book, lent, no_kind, 0, NENTURXO_NO_KIND, 0);
+        refuses_addition(&book, lent, no_kind, 1, NENTURXO_NO_KIND, 0);
+        refuses_addition(&book, lent, body_short, 1, NENTURXO_BODY_SHORT, 0);
+        refuses_addition(&book, lent, after, 2, NENTURXO_BYTES_AFTER, 0);
+        refuses_addition(&book, lent, longer, sizeof longer, NENTURXO_BYTES_AFTER, 0);
+        refuses_addition(&book, lent, spare, 2, NENTURXO_SPARE_BIT, 0);
+        refuses_addition(&book, lent, missing, 2, NENTURXO_RUN_MISSING, 0);
+        refuses_addition(&book, lent, left_over, 2, NENTURXO_RUNS_LEFT, 0);
+    }
+    refuses_addition(&book, book.used, falling, 2, NENTURXO_SLICE_SHORT, 0);
+    refuses_addition(&book, book.used + 1, falling, 2, NENTURXO_SLICE_SHORT, 0);
+    CHECK(add_with(book.bytes, book.used + 2, book.used, falling, 2, book.totals) == 8);
+    CHECK(memcmp(book.bytes, three_records, sizeof three_records) == 0);
+    CHECK(memcmp(book.bytes + 6, falling, 2) == 0);
+    CHECK(all_untouched(book.bytes + 8, sizeof book.bytes - 8));
+    CHECK(memcmp(book.totals, totals, sizeof totals) == 0);
+}
+
+/* A used length beyond the slice, and a place beyond the used length, come
+ * before all else, whatever the book holds. */
+static void test_beyond(void) {
+    const uint8_t one[] = {0x01};
+    const size_t lent = sizeof three_records;
+    small_book book;
+
+    start_three(&book);
+    book.bytes[0] = 0;
+    book.used = lent + 1;
+    refuses_addition(&book, lent, one, 1, NENTURXO_PLACE_OUTSIDE, 0);
+    refuses_addition(&book, 0, one, 0, NENTURXO_PLACE_OUTSIDE, 0);
+    book.used = SIZE_MAX;
+    refuses_addition(&book, lent, one, 1, NENTURXO_PLACE_OUTSIDE, 0);
+
+    CHECK(nenturxo_book_next(book.bytes, lent, lent + 1, 0) == -NENTURXO_PLACE_OUTSIDE);
+    CHECK(nenturxo_book_next(book.bytes, lent, lent, lent + 1) == -NENTURXO_PLACE_OUTSIDE);
+    CHECK(nenturxo_book_next(book.bytes, lent, 1, 2) == -NENTURXO_PLACE_OUTSIDE);
+    CHECK(nenturxo_book_next(book.bytes, lent, SIZE_MAX, SIZE_MAX) == -NENTURXO_PLACE_OUTSIDE);
+    CHECK(nenturxo_book_next(book.bytes, lent, 0, SIZE_MAX) == -NENTURXO_PLACE_OUTSIDE);
+    CHECK(nenturxo_book_next(book.bytes, 0, 0, 1) == -NENTURXO_PLACE_OUTSIDE);
+}
+
+/* As many records of one room as a book can have bytes, and some more. */
+static uint8_t one_rooms[NENTURXO_BOOK_CAPACITY + 3];
+
+/* Adding to a book of so many records of one room: only an accepted record is
+ * written, and nothing else changes. */
+static int32_t add_to_one_rooms(size_t lent, size_t used, const uint8_t *record, size_t length) {
+    uint32_t totals[4] = {0, 0, 0, 0}, before[4];
+    int32_t code;
+    totals[0] = totals[1] = (uint32_t)used;
+    memcpy(before, totals, sizeof before);
+    memset(one_rooms, 1, sizeof one_rooms);
+    code = add_with(one_rooms, lent, used, record, length, totals);
+    if (code < 0) {
+        CHECK(memcmp(totals, before, sizeof before) == 0);
+        CHECK(one_rooms[0] == 1 && memcmp(one_rooms, one_rooms + 1, sizeof one_rooms - 1) == 0);
+    } else {
+        CHECK(totals[0] == used + 1 && totals[1] == used + record[0]);
+        CHECK(memcmp(one_rooms + used, record, length) == 0);
+        CHECK(memcmp(one_rooms, one_rooms + 1, used - 1) == 0);
+        CHECK(one_rooms[0] == 1 && one_rooms[used + length] == 1);
+    }
+    return code;
+}
+
+/* 65,535 bytes may be used and no more: 21 for the book as it is comes before
+ * its records, and for the lengthened one after all but 15. */
+static void test_long_books(void) {
+    const size_t full = NENTURXO_BOOK_CAPACITY;
+    const uint8_t one[] = {0x01}, two[] = {0x02, 0x40}, no_kind[] = {0x00};
+
+    CHECK(add_to_one_rooms(full, full - 1, one, 1) == NENTURXO_BOOK_CAPACITY);
+    CHECK(add_to_one_rooms(full + 3, full - 2, two, 2) == NENTURXO_BOOK_CAPACITY);
+    CHECK(add_to_one_rooms(full + 3, full, one, 1) == -NENTURXO_BOOK_LENGTH);
+    CHECK(add_to_one_rooms(full, full, one, 1) == -NENTURXO_BOOK_LENGTH);
+    CHECK(add_to_one_rooms(full + 3, full - 1, two, 2) == -NENTURXO_BOOK_LENGTH);
+    CHECK(add_to_one_rooms(full - 1, full - 1, one, 1) == -NENTURXO_SLICE_SHORT);
+    CHECK(add_to_one_rooms(full, full, no_kind, 1) == -NENTURXO_NO_KIND);
+    CHECK(add_to_one_rooms(full + 1, full + 1, no_kind, 1) == -NENTURXO_BOOK_LENGTH);
+    CHECK(add_to_one_rooms(full, full + 1, one, 1) == -NENTURXO_PLACE_OUTSIDE);
+
+    CHECK(nenturxo_book_next(one_rooms, full, full, 0) == 1);
+    CHECK(nenturxo_book_next(one_rooms, full, full, full - 1) == 1);
+    CHECK(nenturxo_book_next(one_rooms, full, full, full) == 0);
+    CHECK(nenturxo_book_next(one_rooms, full + 1, full + 1, 0) == -NENTURXO_BOOK_LENGTH);
+    CHECK(nenturxo_book_next(one_rooms, full + 1, full + 1, full + 1) == -NENTURXO_BOOK_LENGTH);
+    CHECK(nenturxo_book_next(one_rooms, full, full + 1, 0) == -NENTURXO_PLACE_OUTSIDE);
+    CHECK(nenturxo_book_next(one_rooms, full + 2, full + 1, full + 2) == -NENTURXO_PLACE_OUTSIDE);
+}
+
+/* The largest ordinal: the last byte of a full book is a bad record. */
+static void test_last_ordinal(void) {
+    const size_t full = NENTURXO_BOOK_CAPACITY;
+    const uint8_t one[] = {0x01};
+    uint32_t totals[4] = {0, 0, 0, 0};
+    int32_t code;
+
+    memset(one_rooms, 1, sizeof one_rooms);
+    one_rooms[full - 1] = 0;
+    code = add_with(one_rooms, sizeof one_rooms, full, one, 1, totals);
+    CHECK(code == -(NENTURXO_NO_KIND + 256 * NENTURXO_BOOK_CAPACITY));
+    CHECK(NENTURXO_BOOK_REFUSAL(code) == NENTURXO_NO_KIND);
+    CHECK(NENTURXO_BOOK_ORDINAL(code) == NENTURXO_BOOK_CAPACITY);
+    CHECK(nenturxo_book_next(one_rooms, full, full, full - 1) == -(NENTURXO_NO_KIND + 256));
+}
+
+static void test_books(void) {
+    test_building();
+    test_reading();
+    test_bad_records();
+    test_summaries();
+    test_added_records();
+    test_beyond();
+    test_long_books();
+    test_last_ordinal();
+}
+
 int main(void) {
     test_labels_in();
     test_rooms_in();
@@ -713,6 +1015,7 @@ int main(void) {
     test_tidy();
     test_tree();
     test_pattern();
+    test_books();
     CHECK(sum(never_written, sizeof never_written) == 0);
     printf("%d checks of the C interface, %d failed\n", checks, failures);
     return failures == 0 ? 0 : 1;

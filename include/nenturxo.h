@@ -7,9 +7,10 @@
  * Link with libnenturxo.a, which `rt staticlib nenturxo` writes. Every call
  * takes each slice as a pointer to its first element and its length in
  * elements, and gives one number back: at least 0 the result, below 0 a
- * refusal's number negated (enum nenturxo_refusal). A refused call writes
- * nothing. A call that is not refused writes from the front of its output
- * slices and leaves the rest of each as it was.
+ * refusal's number negated (enum nenturxo_refusal), which the calls on books
+ * give with more to it. A refused call writes nothing. A call that is not
+ * refused writes from the front of its output slices, or from the place that is
+ * named at it, and leaves the rest of each as it was.
  *
  * No call allocates, keeps a pointer, or uses anything but its arguments, so
  * calls may run at the same time in any number of threads. What the caller
@@ -36,6 +37,9 @@ extern "C" {
 /* The longest text that nenturxo_tidy reads. */
 #define NENTURXO_TEXT_LENGTH 4096
 
+/* The longest used part of a book. */
+#define NENTURXO_BOOK_CAPACITY 65535
+
 /* Why a call is refused. Where several hold, the call gives the first in the
  * order that is named at it. */
 enum nenturxo_refusal {
@@ -58,8 +62,18 @@ enum nenturxo_refusal {
     NENTURXO_POSITIONS_EQUAL = 17, /* the two asked positions equal */
     NENTURXO_TEXT_FORM = 18,       /* text breaks the form or is longer than 4,096 bytes */
     NENTURXO_NOT_SLICING = 19,     /* the plan is not slicing */
-    NENTURXO_NAME_TWICE = 20       /* one nonzero name on two rooms */
+    NENTURXO_NAME_TWICE = 20,      /* one nonzero name on two rooms */
+    NENTURXO_BOOK_LENGTH = 21,     /* used part of a book is or would become longer than 65,535 bytes */
+    NENTURXO_PLACE_OUTSIDE = 22,   /* used length beyond the lent slice or a place beyond the used length */
+    NENTURXO_SUMMARY_DIFFERS = 23  /* summary is not the book's */
 };
+
+/* A bad record in a book is refused by its own number together with its
+ * ordinal, from 1, as -(number + 256 * ordinal). Of what nenturxo_book_next or
+ * nenturxo_book_add gives below 0, call it r, these are the number, an enum
+ * nenturxo_refusal, and the ordinal, 0 if no record in the book is the cause. */
+#define NENTURXO_BOOK_REFUSAL(r) (-(r) % 256)
+#define NENTURXO_BOOK_ORDINAL(r) (-(r) / 256)
 
 /* On which side of another room a room stands: the two low bits of what
  * nenturxo_question gives. */
@@ -219,6 +233,58 @@ int32_t nenturxo_tree(const uint8_t *record, size_t length,
  * only, gives 0; one that it refuses with 8 gives a pattern; and any other one
  * is refused as there. Refusals, in this order: 1, 6, 7. */
 int64_t nenturxo_pattern(const uint8_t *labels, size_t n);
+
+/* Book next: the record that begins at a place of a book.
+ *
+ * A book is a slice in whose first `used` bytes records stand one after
+ * another, and nothing between them; at most 65,535 bytes are used. What stands
+ * behind the used part does not count.
+ *
+ * book       the book's bytes, `lent` of them
+ * used       how many of them are used
+ * place      where the record begins, counted from 0
+ *
+ * Gives the record's length, 1 to 97: the record is that part of the book, from
+ * book + place on, and can be handed to the other calls as it stands. Gives 0 at
+ * the end, where the place is the used length. So a loop reads a book from place
+ * 0, and goes on by what it was given until that is 0. The place may be any, but
+ * what begins within a record need not be one.
+ *
+ * Only the record at the place is judged. It counts as ordinal 1, and a bad one
+ * gives -(number + 256). Nothing is written. Refusals, in this order: 22, 21 as
+ * -number; at the end none; then of the record 9, 10, 14, 12, 13, where 10 means
+ * that the used part ends before the record does. */
+int32_t nenturxo_book_next(const uint8_t *book, size_t lent,
+                           size_t used, size_t place);
+
+/* Book add: a record is added to a book, and to the summary beside it.
+ *
+ * book       the book's bytes, `lent` of them: from book + used on they get the
+ *            record, and all others stay as they were
+ * used       how many of them are used, 0 for a new book
+ * record     the record's bytes, all of them and no more
+ * plans      the number of records in the book, 0 for a new book
+ * rooms      the number of their rooms, likewise
+ * rises      the number of their triples whose third bit is 0, likewise
+ * falls      the number of their triples whose third bit is 1, likewise
+ *
+ * The four totals are read first; they get those of the lengthened book. No two
+ * of their pointers are the same, and none points into the book or the record.
+ *
+ * Gives the new used length. Refusals, in this order, after which book and
+ * totals are as they were: 22 if used is beyond lent; 21 for the book as it is;
+ * the first bad record in the book as -(number + 256 * ordinal), with 9, 10, 14,
+ * 12, 13 in this order, where 10 means that the used part ends before the record
+ * does; 23; those of the added record, without ordinal, 9, 10, 11, 14, 12, 13;
+ * 21 for the lengthened book; 15 if the book's slice cannot hold it.
+ *
+ * Each call checks the whole book, every record of it, so its time grows with
+ * the used length: about FIGURE microseconds for a full book of 675 records of
+ * 255 rooms. */
+int32_t nenturxo_book_add(uint8_t *book, size_t lent, size_t used,
+                          const uint8_t *record, size_t length,
+                          uint32_t *plans, uint32_t *rooms,
+                          uint32_t *rises, uint32_t *falls);
 
 #ifdef __cplusplus
 }

@@ -20,6 +20,10 @@ use Rattle.answers.specs.declared.RecordAnswer.{RecordAnswer}
 use Rattle.answers.specs.declared.RecordAnswer.the-variants as recordIn
 use Rattle.slicing.specs.declared.TreeAnswer.{TreeAnswer}
 use Rattle.slicing.specs.declared.TreeAnswer.the-variants as tree
+use Rattle.book.specs.declared.NextAnswer.{NextAnswer}
+use Rattle.book.specs.declared.NextAnswer.the-variants as next
+use Rattle.book.specs.declared.AddAnswer.{AddAnswer}
+use Rattle.book.specs.declared.AddAnswer.the-variants as add
 use Rattle.questions.specs.declared.QuestionAnswer.{QuestionAnswer}
 use Rattle.questions.specs.declared.QuestionAnswer.the-variants as question
 use Rattle.entering.specs.declared.RoomsAnswer.{RoomsAnswer}
@@ -88,3 +92,20 @@ relatedNumber relation false = relationNumber (relation .side) (relation .direct
 abbrev pub questionCode : QuestionAnswer → ℤ
 questionCode (question.Related relation touch) = pos (relatedNumber relation touch)
 questionCode (question.Refused refusal) = refusalCode refusal
+
+-- a bad record in a book: its number and 256 times its ordinal, negated
+abbrev pub badRecordCode : Refusal → (ordinal : ℕ) → ℤ
+badRecordCode refusal ordinal = negℤ (pos (numberOf refusal + 256 * ordinal))
+
+-- Reading on in a book: the record's length, 0 at the end
+abbrev pub nextCode : NextAnswer → ℤ
+nextCode (next.Record size) = pos size
+nextCode next.End = pos 0
+nextCode (next.BadRecord refusal ordinal) = badRecordCode refusal ordinal
+nextCode (next.Refused refusal) = refusalCode refusal
+
+-- Adding to a book: the new used length
+abbrev pub addCode : AddAnswer → ℤ
+addCode (add.Added size) = pos size
+addCode (add.BadRecord refusal ordinal) = badRecordCode refusal ordinal
+addCode (add.Refused refusal) = refusalCode refusal

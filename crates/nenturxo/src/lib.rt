@@ -8,11 +8,16 @@ ghost use Rattle.labeltext.specs.Answer.{Tidied};
 ghost use Rattle.answers.specs.Answer.{Few, slices, RecordIn};
 ghost use Rattle.slicing.specs.Answer.{TreeIn};
 ghost use Rattle.questions.specs.Answer.{questionAnswer};
+ghost use Rattle.book.specs.Summary.{held};
+ghost use Rattle.book.specs.Answer.{nextAnswer, BookAdd};
 ghost use Rattle.entering.specs.Answer.{slices as roomSlices, RoomsIn};
 ghost use Rattle.nenturxo.specs.Code.{Coded, refusalCode, roomsCode, labelsCode, tidyCode, recordCode, treeCode};
 ghost use Rattle.nenturxo.specs.Code.{patternNumber, patternCode, relationNumber, relatedNumber, questionCode};
-ghost use Rattle.nenturxo.specs.Size.{AtMost97};
+ghost use Rattle.nenturxo.specs.Code.{badRecordCode, nextCode, addCode};
+ghost use Rattle.nenturxo.specs.Size.{AtMost97, NextFits, AddFits};
 use answers::RecordAnswer;
+use book::AddAnswer;
+use book::NextAnswer;
 use drawing::Relation;
 use drawing::Room;
 use drawing::Side;
@@ -189,4 +194,68 @@ pub extern "C" fn nenturxo_question(record: &[u8], first: u8, second: u8) -> i32
         QuestionAnswer::Related(relation, touch) => related_number(relation, touch) as i32,
         QuestionAnswer::Refused(refusal) => refused(refusal),
     }
+}
+
+// The number of a bad record in a book and 256 times its ordinal, negated.
+fn bad_record(refusal: Refusal, ordinal: usize) -> i32
+    requires { ⌜ ordinal ≤ 65535 ⌝ }
+    ensures { λ r. ⌜ r ≡ badRecordCode refusal ordinal ⌝ }
+{
+    let number = (refusal.number() as usize + 256 * ordinal) as i32;
+    -number
+}
+
+// The number of an answer of reading on in a book.
+fn next_code(answer: NextAnswer) -> i32
+    requires { ⌜ NextFits answer ⌝ }
+    ensures { λ r. ⌜ r ≡ nextCode answer ⌝ }
+{
+    match answer {
+        NextAnswer::Record(size) => size as i32,
+        NextAnswer::End => 0,
+        NextAnswer::BadRecord(refusal, ordinal) => bad_record(refusal, ordinal),
+        NextAnswer::Refused(refusal) => refused(refusal),
+    }
+}
+
+// Reading on in a book: the length of the record that begins at the place, whose bytes are the caller's own; 0 at the end; a bad record's
+// number and 256 times its ordinal, negated; or another refusal's number negated.
+#[no_mangle]
+pub extern "C" fn nenturxo_book_next(book: &[u8], used: usize, place: usize) -> i32
+    ensures { λ r. ⌜ r ≡ nextCode (nextAnswer (now (book .entry)) used place) ⌝ }
+{
+    let answer = bookkeeping::next_answer(book, used, place);
+    next_code(answer)
+}
+
+// The number of an answer of adding to a book.
+fn add_code(answer: AddAnswer) -> i32
+    requires { ⌜ AddFits answer ⌝ }
+    ensures { λ r. ⌜ r ≡ addCode answer ⌝ }
+{
+    match answer {
+        AddAnswer::Added(size) => size as i32,
+        AddAnswer::BadRecord(refusal, ordinal) => bad_record(refusal, ordinal),
+        AddAnswer::Refused(refusal) => refused(refusal),
+    }
+}
+
+// Adding to a book: the new used length, with the record written behind the used part and its totals added to the four; a bad record's
+// number and 256 times its ordinal, negated; or another refusal's number negated, and nothing written.
+#[no_mangle]
+pub extern "C" fn nenturxo_book_add(
+    book: &mut [u8],
+    used: usize,
+    record: &[u8],
+    plans: &mut u32,
+    rooms: &mut u32,
+    rises: &mut u32,
+    falls: &mut u32,
+) -> i32
+    ensures { λ r. ⌜ Coded addCode r (λ answer. BookAdd (now (book .entry)) used (now («record» .entry))
+        (held (now (plans .entry)) (now (rooms .entry)) (now (rises .entry)) (now (falls .entry))) answer
+        (now (book .exit)) (held (now (plans .exit)) (now (rooms .exit)) (now (rises .exit)) (now (falls .exit)))) ⌝ }
+{
+    let answer = bookkeeping::add_record(book, used, record, plans, rooms, rises, falls);
+    add_code(answer)
 }

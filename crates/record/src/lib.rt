@@ -41,6 +41,9 @@ pub enum Refusal {
     TextForm,
     NotSlicing,
     NameTwice,
+    LongBook,
+    BeyondBook,
+    OtherSummary,
 }
 
 impl Refusal {
@@ -69,6 +72,9 @@ impl Refusal {
             Refusal::TextForm => 18,
             Refusal::NotSlicing => 19,
             Refusal::NameTwice => 20,
+            Refusal::LongBook => 21,
+            Refusal::BeyondBook => 22,
+            Refusal::OtherSummary => 23,
         }
     }
 }
