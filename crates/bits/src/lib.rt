@@ -74,16 +74,16 @@ pub fn eight_groups(bytes: &[u8], m: usize) -> u32
     let at = 3 * m;
     let left = bytes.len() - at;
     let high = broad(bytes[at]) * 65536;
-    if 2 < left {
-        return high + broad(bytes[at + 1]) * 256 + broad(bytes[at + 2]);
+    if left < 3 {
+        return high + broad(bytes[bytes.len() - 1]) * 256 * ((left - 1) as u32);
     }
-    high + broad(bytes[bytes.len() - 1]) * 256 * ((left - 1) as u32)
+    high + broad(bytes[at + 1]) * 256 + broad(bytes[at + 2])
 }
 
 // Group i of such a word, a number from 0 to 7.
-pub fn group_of_word(word: u32, i: usize) -> u8
+pub fn group_of_word(word: u32, i: usize) -> usize
     requires { ⌜ i < 8 ⌝ }
     ensures { λ r. ⌜ (r ≡ groupOfWord word i) × (r < 8) ⌝ }
 {
-    ((word >> (21 - 3 * i)) & 7) as u8
+    ((word >> (21 - 3 * i)) & 7) as usize
 }

@@ -90,7 +90,7 @@ const ABOVE: usize = 65536;
 const STEP: usize = 4294967296;
 
 // What a triple adds to the word.
-fn row(triple: u8) -> usize
+fn row(triple: usize) -> usize
     requires { ⌜ triple < 8 ⌝ }
     ensures { λ r. ⌜ Row (tripleOf triple) r ⌝ }
 {

@@ -1,5 +1,6 @@
 //! The calls, as they are timed.
 
+use crate::books::{book_with_places, FullBook};
 use crate::case::Case;
 use crate::outputs::{Drawing, Numbers};
 use crate::room_list::RoomList;
@@ -113,6 +114,18 @@ pub const PATTERN: Call = Call {
     sheet: |cases| one_turn(cases, |case| reference::pattern(&case.barred)),
 };
 
+pub const BOOK_NEXT: Call = Call {
+    name: "Book next",
+    times: |cases, calls| book_next(cases, calls).0,
+    sheet: |cases| {
+        let (book, places) = book_with_places(cases);
+        let used = book.len();
+        one_turn(&places, |&place| {
+            reference::book_next(&book, used, place).is_ok()
+        })
+    },
+};
+
 /// The times of so many calls of "Rooms in" on the lists of cases, accepted or
 /// refused.
 pub fn rooms_in<T>(cases: &[T], calls: usize, list_of: impl Fn(&T) -> &RoomList) -> Times {
@@ -159,4 +172,39 @@ pub fn pattern<T>(cases: &[T], calls: usize, labels_of: impl Fn(&T) -> &[u8]) ->
         |case| nenturxo::pattern(labels_of(case)),
         |case| fast::pattern(labels_of(case)),
     )
+}
+
+/// The times of so many calls of "Book next" in a book of the records of cases,
+/// and after them that of the version that goes triple by triple.
+pub fn book_next(cases: &[Case], calls: usize) -> (Times, f64) {
+    let (book, places) = book_with_places(cases);
+    let used = book.len();
+    quickest_of_three(
+        &places,
+        calls,
+        |&place| nenturxo::book_next(&book, used, place).is_ok(),
+        |&place| fast::book_next(&book, used, place).is_ok(),
+        |&place| fast::book_next_by_triples(&book, used, place).is_ok(),
+    )
+}
+
+/// The times of so many calls of "Book add" on full books: before them that of
+/// the version from the sheet, and after them that of the version that goes
+/// triple by triple. Each call gets the used length and the summary that the
+/// book had before, so each does the whole work.
+pub fn book_add(books: &[FullBook], calls: usize) -> (f64, Times, f64) {
+    let copies = || -> Vec<Vec<u8>> { books.iter().map(|book| book.lent.clone()).collect() };
+    let [mut lent, mut same, mut again, mut once] = [copies(), copies(), copies(), copies()];
+    let indexes: Vec<usize> = (0..books.len()).collect();
+    let sheet = one_turn(&indexes, |&at| {
+        books[at].add_by(reference::book_add, &mut once[at])
+    });
+    let (times, by_triples) = quickest_of_three(
+        &indexes,
+        calls,
+        |&at| books[at].add_by_library(&mut lent[at]),
+        |&at| books[at].add_by(fast::book_add, &mut same[at]),
+        |&at| books[at].add_by(fast::book_add_by_triples, &mut again[at]),
+    );
+    (sheet, times, by_triples)
 }

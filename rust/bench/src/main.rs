@@ -4,6 +4,7 @@
 
 #![forbid(unsafe_code)]
 
+mod books;
 mod calls;
 mod case;
 mod lists;
@@ -14,9 +15,10 @@ mod shapes;
 mod texts;
 mod timing;
 
+use books::BOOKS;
 use calls::{
-    pattern, rooms_in, tidy, tree, Call, LABELS_IN, PATTERN, QUESTION, RECORD_IN, ROOMS_IN, TIDY,
-    TREE,
+    book_add, book_next, pattern, rooms_in, tidy, tree, Call, BOOK_NEXT, LABELS_IN, PATTERN,
+    QUESTION, RECORD_IN, ROOMS_IN, TIDY, TREE,
 };
 use case::Case;
 use lists::LISTS;
@@ -29,8 +31,8 @@ use texts::{Kind, BROKEN_AT_THE_END, MANY_HANDS, TIDY_FORM, TOO_MANY_NUMBERS};
 use timing::{calls_in_a_round, ROUNDS};
 
 /// The calls.
-const EVERY_CALL: [Call; 7] = [
-    LABELS_IN, RECORD_IN, ROOMS_IN, QUESTION, TIDY, TREE, PATTERN,
+const EVERY_CALL: [Call; 8] = [
+    LABELS_IN, RECORD_IN, ROOMS_IN, QUESTION, TIDY, TREE, PATTERN, BOOK_NEXT,
 ];
 
 /// Counts of rooms for the time of a call.
@@ -47,6 +49,9 @@ const NUMBERS_OF_LONG_TEXTS: usize = 1300;
 
 /// The count of labels for lists with and without a pattern.
 const LABELS_OF_LISTS: usize = 255;
+
+/// Different books of each kind.
+const FULL_BOOKS: usize = 4;
 
 /// Different plans for each count of rooms.
 const PLANS: usize = 512;
@@ -65,6 +70,10 @@ fn main() {
             print_row(call, &cases, calls_in_a_round(&cases, n), 1.0);
         }
     }
+
+    print_places("nanoseconds per call of Book next, by the form");
+
+    print_books("nanoseconds per call of Book add, by the book");
 
     print_names("nanoseconds per call of Rooms in, by the names");
 
@@ -129,6 +138,43 @@ fn print_row(call: Call, cases: &[Case], calls: usize, worth: f64) {
     print!("{name:<9} {n:>5} {:>10.2}", times.library * worth);
     print!(" {:>12.2} {:>6.3}", sheet * worth, times.library / sheet);
     println!(" {:>10.2} {:>6.2}", times.tuned * worth, times.ratio());
+}
+
+/// Prints the times for places in books, and the ratios of the library to the
+/// tuned Rust version and to the one that goes triple by triple.
+fn print_places(title: &str) {
+    println!("\n{title}");
+    print!("{:<9} {:>5} {:>10}", "", "n", "library");
+    print!(" {:>10} {:>6}", "tuned", "ratio");
+    println!(" {:>10} {:>6}", "by triples", "ratio");
+    for n in CALLS {
+        let cases = cases(n);
+        let (times, by_triples) = book_next(&cases, calls_in_a_round(&cases, n));
+        print!("{:<9} {n:>5} {:>10.2}", BOOK_NEXT.name, times.library);
+        print!(" {:>10.2} {:>6.2}", times.tuned, times.ratio());
+        let ratio = times.library / by_triples;
+        println!(" {by_triples:>10.2} {ratio:>6.2}");
+    }
+}
+
+/// Prints the times for full books of each kind, with the number of their
+/// records, and the ratios of the library to each of the three Rust versions.
+fn print_books(title: &str) {
+    println!("\n{title}");
+    print!("{:<12} {:>7} {:>10}", "", "records", "library");
+    print!(" {:>12} {:>6}", "sheet", "ratio");
+    print!(" {:>10} {:>6}", "tuned", "ratio");
+    println!(" {:>10} {:>6}", "by triples", "ratio");
+    for kind in BOOKS {
+        let books = kind.books(FULL_BOOKS);
+        let rooms = books[0].summary.rooms as usize;
+        let (sheet, times, by_triples) = book_add(&books, calls_in_a_round(&books, rooms));
+        let (name, records, library) = (kind.name, kind.records, times.library);
+        print!("{name:<12} {records:>7} {library:>10.0}");
+        print!(" {sheet:>12.0} {:>6.3}", library / sheet);
+        print!(" {:>10.0} {:>6.2}", times.tuned, times.ratio());
+        println!(" {by_triples:>10.0} {:>6.2}", library / by_triples);
+    }
 }
 
 /// Prints the times for lists with names of each kind.

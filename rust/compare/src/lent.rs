@@ -117,10 +117,22 @@ impl<T: Entry> Input<T> {
         &self.buffer[margin..self.buffer.len() - margin]
     }
 
+    /// The slice to lend to a call that may write there too.
+    pub fn slice_mut(&mut self) -> &mut [T] {
+        let margin = self.around.margin;
+        let end = self.buffer.len() - margin;
+        &mut self.buffer[margin..end]
+    }
+
+    /// Whether the slice is `entries` and all around it as it was.
+    pub fn holds(&self, entries: &[T]) -> bool {
+        self.buffer == Self::new(entries, self.around).buffer
+    }
+
     /// Stops unless the slice is still `entries` and all around it as it was.
     pub fn expect_still(&self, entries: &[T]) {
         assert!(
-            self.buffer == Self::new(entries, self.around).buffer,
+            self.holds(entries),
             "a call wrote where its input stands: {entries:?}"
         );
     }

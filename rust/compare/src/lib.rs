@@ -6,6 +6,8 @@
 
 #![forbid(unsafe_code)]
 
+mod book_add;
+mod book_next;
 mod causes;
 pub mod damage;
 pub mod floorplan;
@@ -35,6 +37,7 @@ pub mod tidy;
 pub mod tree;
 mod walks;
 
+pub use book_add::Addition;
 pub use causes::each_times;
 pub use floorplan::Floorplan;
 pub use given::{AskedRecord, Given, GivenRecord, GivenRooms, GivenTree};

@@ -1,6 +1,6 @@
-//! Rooms, relations and patterns in the library's own types.
+//! Rooms, relations, patterns and summaries in the library's own types.
 
-use reference::{Condition, Pattern, Relation, Room, Side};
+use reference::{Condition, Pattern, Relation, Room, Side, Summary};
 
 /// A room as the library takes it.
 #[must_use]
@@ -47,5 +47,16 @@ pub fn pattern(pattern: Pattern) -> nenturxo::Pattern {
         j,
         k,
         l,
+    }
+}
+
+/// A summary as the library takes it.
+#[must_use]
+pub fn summary(summary: Summary) -> nenturxo::Summary {
+    nenturxo::Summary {
+        plans: summary.plans,
+        rooms: summary.rooms,
+        rises: summary.rises,
+        falls: summary.falls,
     }
 }

@@ -14,6 +14,7 @@
 
 #![deny(unsafe_code)]
 
+mod book;
 mod pattern;
 mod refusal;
 mod relation;
@@ -21,6 +22,7 @@ mod room;
 #[allow(unsafe_code)]
 mod sys;
 
+pub use book::{BookError, Summary};
 pub use pattern::{Condition, Pattern};
 pub use refusal::Refusal;
 pub use relation::{Relation, Side};
@@ -42,6 +44,9 @@ pub const TEXT_LENGTH: usize = 4096;
 /// The length of the longest cutting tree, that of 255 rooms of which each is
 /// cut off by a line of its own, the lines in turn vertical and horizontal.
 pub const TREE_CAPACITY: usize = 763;
+
+/// The length of the longest used part of a book.
+pub const BOOK_CAPACITY: usize = 65_535;
 
 /// Labels in: writes the record of a label list to the front of `record` and
 /// gives its length. The rest of `record` keeps its bytes.
@@ -348,6 +353,106 @@ pub fn pattern(labels: &[u8]) -> Result<Option<Pattern>, Refusal> {
         return Err(Refusal::from_code(code));
     }
     Ok(Pattern::from_code(code))
+}
+
+/// Book next: gives the record that begins at `place` of a book, as that part of
+/// the bytes, or `None` at the used length.
+///
+/// A book is records one after another in the first `used` bytes of `book`, at
+/// most [`BOOK_CAPACITY`]; what stands behind them does not count. Only the
+/// record at the place is judged, and there is no summary to check.
+///
+/// ```
+/// use nenturxo::{book_add, book_next, BookError, Summary};
+///
+/// let mut book = [0; 100];
+/// let mut summary = Summary::default();
+/// let used = book_add(&mut book, 0, &[0x02, 0x40], &mut summary)?;
+/// let used = book_add(&mut book, used, &[0x05, 0x31, 0x70], &mut summary)?;
+/// assert_eq!(used, 5);
+/// assert_eq!(summary, Summary { plans: 2, rooms: 7, rises: 3, falls: 2 });
+///
+/// let mut place = 0;
+/// let mut rooms = Vec::new();
+/// while let Some(record) = book_next(&book, used, place)? {
+///     rooms.push(record[0]);
+///     place += record.len();
+/// }
+/// assert_eq!(place, used);
+/// assert_eq!(rooms, [2, 5]);
+/// # Ok::<(), BookError>(())
+/// ```
+///
+/// # Errors
+///
+/// The first of these that holds: [22](Refusal::PLACE_OUTSIDE),
+/// [21](Refusal::BOOK_LENGTH), and then, of the record at the place and with
+/// ordinal 1, [9](Refusal::NO_KIND), [10](Refusal::BODY_SHORT) if the used part
+/// ends before the record does, [14](Refusal::SPARE_BIT),
+/// [12](Refusal::RUN_MISSING), [13](Refusal::RUNS_LEFT).
+pub fn book_next(book: &[u8], used: usize, place: usize) -> Result<Option<&[u8]>, BookError> {
+    match book_result(sys::book_next(book, used, place))? {
+        0 => Ok(None),
+        length => Ok(Some(&book[place..place + length])),
+    }
+}
+
+/// Book add: puts a record behind the used part of a book, adds it to the
+/// summary, and gives the new used length. All other bytes of `book` keep their
+/// values.
+///
+/// An empty book has a used length of 0 and the default summary. Each call
+/// judges the whole book, every record of it, and so takes the longer the more
+/// of the book is used.
+///
+/// ```
+/// use nenturxo::{book_add, BookError, Refusal, Summary};
+///
+/// let mut book = [0xFF; 4];
+/// let mut summary = Summary::default();
+/// let used = book_add(&mut book, 0, &[0x02, 0xA0], &mut summary)?;
+/// assert_eq!((used, book), (2, [0x02, 0xA0, 0xFF, 0xFF]));
+/// assert_eq!(summary, Summary { plans: 1, rooms: 2, rises: 0, falls: 1 });
+///
+/// // A refused call changes neither the book nor the summary.
+/// let mut other = Summary { falls: 2, ..summary };
+/// let refused = book_add(&mut book, used, &[0x01], &mut other).unwrap_err();
+/// assert_eq!(refused.error, Refusal::SUMMARY_DIFFERS);
+/// let refused = book_add(&mut book, used, &[0x05, 0x31, 0x70], &mut summary).unwrap_err();
+/// assert_eq!((refused.error, refused.ordinal), (Refusal::SLICE_SHORT, None));
+///
+/// // With one more byte the book has a second record, of kind FF.
+/// let refused = book_add(&mut book, used + 1, &[0x01], &mut summary).unwrap_err();
+/// assert_eq!((refused.error, refused.ordinal), (Refusal::BODY_SHORT, Some(2)));
+/// # Ok::<(), BookError>(())
+/// ```
+///
+/// # Errors
+///
+/// The first of these that holds, and `book` and `summary` are as they were:
+/// [22](Refusal::PLACE_OUTSIDE) if `used` is beyond the slice;
+/// [21](Refusal::BOOK_LENGTH) for the book as it is; of the first bad record in
+/// the book, with its ordinal, [9](Refusal::NO_KIND), [10](Refusal::BODY_SHORT)
+/// if the used part ends before the record does, [14](Refusal::SPARE_BIT),
+/// [12](Refusal::RUN_MISSING), [13](Refusal::RUNS_LEFT);
+/// [23](Refusal::SUMMARY_DIFFERS); of the added record, without ordinal,
+/// [9](Refusal::NO_KIND), [10](Refusal::BODY_SHORT),
+/// [11](Refusal::BYTES_AFTER), [14](Refusal::SPARE_BIT),
+/// [12](Refusal::RUN_MISSING), [13](Refusal::RUNS_LEFT);
+/// [21](Refusal::BOOK_LENGTH) for the lengthened book;
+/// [15](Refusal::SLICE_SHORT) if the slice cannot hold it.
+pub fn book_add(
+    book: &mut [u8],
+    used: usize,
+    record: &[u8],
+    summary: &mut Summary,
+) -> Result<usize, BookError> {
+    book_result(sys::book_add(book, used, record, summary))
+}
+
+/// The result of a call on a book that a code stands for.
+fn book_result(code: sys::Code) -> Result<usize, BookError> {
+    usize::try_from(code).map_err(|_| BookError::from_code(code))
 }
 
 /// The result that a code stands for.

@@ -60,11 +60,22 @@ impl Refusal {
     pub const NOT_SLICING: Self = Self(19);
     /// 20: one nonzero name on two rooms
     pub const NAME_TWICE: Self = Self(20);
+    /// 21: used part of a book is or would become longer than 65,535 bytes
+    pub const BOOK_LENGTH: Self = Self(21);
+    /// 22: used length beyond the lent slice or a place beyond the used length
+    pub const PLACE_OUTSIDE: Self = Self(22);
+    /// 23: summary is not the book's
+    pub const SUMMARY_DIFFERS: Self = Self(23);
 
     /// The refusal that a code below 0 stands for, be it long or not. A
     /// refusal's number is small.
     pub(crate) fn from_code(code: impl Into<LongCode>) -> Self {
         Self(code.into().unsigned_abs() as u32)
+    }
+
+    /// The refusal with this number.
+    pub(crate) const fn from_number(number: u32) -> Self {
+        Self(number)
     }
 
     /// The refusal's number in the sheet's table.
@@ -97,6 +108,11 @@ impl Refusal {
             Self::TEXT_FORM => "text breaks the form or is longer than 4,096 bytes",
             Self::NOT_SLICING => "the plan is not slicing",
             Self::NAME_TWICE => "one nonzero name on two rooms",
+            Self::BOOK_LENGTH => "used part of a book is or would become longer than 65,535 bytes",
+            Self::PLACE_OUTSIDE => {
+                "used length beyond the lent slice or a place beyond the used length"
+            }
+            Self::SUMMARY_DIFFERS => "summary is not the book's",
             // The library has no other numbers.
             _ => "not in the table",
         }

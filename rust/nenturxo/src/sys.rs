@@ -1,6 +1,6 @@
 //! The C interface, and the only unsafe code: one safe function for each call.
 
-use crate::Room;
+use crate::{Room, Summary};
 
 /// What a call gives back: at least 0 a result, below 0 a refusal's number
 /// negated.
@@ -49,6 +49,20 @@ mod c {
         pub fn nenturxo_tree(record: *const u8, n: usize, tree: *mut u8, capacity: usize) -> Code;
 
         pub fn nenturxo_pattern(labels: *const u8, n: usize) -> LongCode;
+
+        pub fn nenturxo_book_next(book: *const u8, lent: usize, used: usize, place: usize) -> Code;
+
+        pub fn nenturxo_book_add(
+            book: *mut u8,
+            lent: usize,
+            used: usize,
+            record: *const u8,
+            length: usize,
+            plans: *mut u32,
+            rooms: *mut u32,
+            rises: *mut u32,
+            falls: *mut u32,
+        ) -> Code;
     }
 }
 
@@ -143,4 +157,38 @@ pub fn pattern(labels: &[u8]) -> LongCode {
     // SAFETY: the pointer is good for as many bytes as the length beside it
     // says. The call keeps no pointer.
     unsafe { c::nenturxo_pattern(labels.as_ptr(), labels.len()) }
+}
+
+/// `nenturxo_book_next` on a slice and two lengths.
+pub fn book_next(book: &[u8], used: usize, place: usize) -> Code {
+    // SAFETY: the pointer is good for as many bytes as the length beside it
+    // says. The call keeps no pointer.
+    unsafe { c::nenturxo_book_next(book.as_ptr(), book.len(), used, place) }
+}
+
+/// `nenturxo_book_add` on two slices, a length and four totals.
+pub fn book_add(book: &mut [u8], used: usize, record: &[u8], summary: &mut Summary) -> Code {
+    let Summary {
+        plans,
+        rooms,
+        rises,
+        falls,
+    } = summary;
+    // SAFETY: both slices' pointers are good for as many bytes as the lengths
+    // beside them say, the first one for writing too, and the others for one
+    // total each. As all but the second are borrowed mutably, and each total is
+    // a field of its own, no two overlap. The call keeps no pointer.
+    unsafe {
+        c::nenturxo_book_add(
+            book.as_mut_ptr(),
+            book.len(),
+            used,
+            record.as_ptr(),
+            record.len(),
+            plans,
+            rooms,
+            rises,
+            falls,
+        )
+    }
 }

@@ -5,6 +5,7 @@
 
 pub mod asked;
 pub mod barred;
+pub mod book;
 pub mod names;
 mod random;
 pub mod slicing;

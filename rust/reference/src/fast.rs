@@ -1,6 +1,10 @@
 //! The calls as fast as hand-written Rust makes them, for the benchmark.
 
 mod basics;
+mod book;
+mod book_by_triples;
+#[cfg(test)]
+mod book_checks;
 mod labels;
 mod pattern;
 mod plan;
@@ -14,6 +18,8 @@ mod tree_by_intervals;
 mod tree_checks;
 mod walks;
 
+pub use book::{book_add, book_next};
+pub use book_by_triples::{book_add_by_triples, book_next_by_triples};
 pub use labels::labels_in;
 pub use pattern::pattern;
 pub use plan::{question, record_in};

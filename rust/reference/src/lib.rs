@@ -2,7 +2,7 @@
 //!
 //! This is the separately written version that the proved library is held to.
 //! It is meant to be believed by reading: each function is one sentence of
-//! the sheet, or of the requests M-100 to M-106, and says which. What is fast
+//! the sheet, or of the requests M-100 to M-107, and says which. What is fast
 //! lives apart, in [`fast`], and is itself held to the definitions. What tests
 //! are made of is in [`cases`].
 //!
@@ -19,6 +19,7 @@
 #![forbid(unsafe_code)]
 
 mod barred;
+mod book;
 pub mod cases;
 mod cutting;
 mod drawing;
@@ -41,6 +42,7 @@ mod tree;
 mod triple;
 
 pub use barred::is_barred;
+pub use book::{book_add, book_next, summary_of, BookRefusal, Summary, BOOK_CAPACITY};
 pub use cutting::{cutting_tree, Cut, CuttingTree};
 pub use drawing::{drawing, Room};
 pub use edge::{Edge, Line};

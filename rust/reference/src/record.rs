@@ -49,6 +49,16 @@ pub fn triples_in(record: &[u8]) -> Result<Vec<Triple>, Refusal> {
         .collect())
 }
 
+/// The record that begins with the first of these bytes: as many of them as its
+/// kind fixes, or all if there are fewer. Kind 0 fixes no body.
+pub(crate) fn record_at_the_front(bytes: &[u8]) -> &[u8] {
+    let length = match bytes.first() {
+        None | Some(0) => 1,
+        Some(&kind) => 1 + body_size(kind).1,
+    };
+    bytes.get(..length).unwrap_or(bytes)
+}
+
 /// What each bit of a byte is worth, the highest first.
 const WORTH: [u8; 8] = [128, 64, 32, 16, 8, 4, 2, 1];
 
@@ -67,7 +77,7 @@ fn bits_from_the_top(byte: u8) -> [bool; 8] {
 
 #[cfg(test)]
 mod tests {
-    use super::{record_of, triples_in};
+    use super::{record_at_the_front, record_of, triples_in};
     use crate::{Refusal, Triple};
 
     #[test]
@@ -96,6 +106,21 @@ mod tests {
                 assert_eq!(triples_in(&record_of(n, &triples)), Ok(triples));
             }
         }
+    }
+
+    #[test]
+    fn a_record_ends_where_its_kind_says_or_with_the_bytes() {
+        for n in 1..=255u8 {
+            let triples = vec![[true; 3]; usize::from(n) - 1];
+            let record = record_of(n, &triples);
+            assert_eq!(record_at_the_front(&record), record);
+            let more = [&record[..], &[n, 0]].concat();
+            assert_eq!(record_at_the_front(&more), record);
+            let fewer = &record[..record.len().div_ceil(2)];
+            assert_eq!(record_at_the_front(fewer), fewer);
+        }
+        assert_eq!(record_at_the_front(&[0, 1, 1]), [0]);
+        assert_eq!(record_at_the_front(&[]), []);
     }
 
     #[test]

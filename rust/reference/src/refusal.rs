@@ -1,5 +1,5 @@
-//! The sheet's table of refusals, with the numbers that M-100, M-103 and M-106
-//! add.
+//! The sheet's table of refusals, with the numbers that M-100, M-103, M-106 and
+//! M-107 add.
 
 use std::fmt;
 
@@ -47,11 +47,17 @@ pub enum Refusal {
     NotSlicing = 19,
     /// 20: one nonzero name on two rooms
     NameTwice = 20,
+    /// 21: used part of a book is or would become longer than 65,535 bytes
+    BookLength = 21,
+    /// 22: used length beyond the lent slice or a place beyond the used length
+    PlaceOutside = 22,
+    /// 23: summary is not the book's
+    SummaryDiffers = 23,
 }
 
 impl Refusal {
     /// Every refusal, in the order of the table.
-    pub const ALL: [Self; 20] = [
+    pub const ALL: [Self; 23] = [
         Self::ListLength,
         Self::EmptyRoom,
         Self::SharedSquare,
@@ -72,6 +78,9 @@ impl Refusal {
         Self::TextForm,
         Self::NotSlicing,
         Self::NameTwice,
+        Self::BookLength,
+        Self::PlaceOutside,
+        Self::SummaryDiffers,
     ];
 
     /// What a room list is refused with, in the sheet's order with that of
@@ -129,6 +138,41 @@ impl Refusal {
         Self::BarredPattern,
     ];
 
+    /// What a book is refused with where its next record is asked for, in the
+    /// request's order. The last five are those of a record in it.
+    pub const OF_NEXT: [Self; 7] = [
+        Self::PlaceOutside,
+        Self::BookLength,
+        Self::NoKind,
+        Self::BodyShort,
+        Self::SpareBit,
+        Self::RunMissing,
+        Self::RunsLeft,
+    ];
+
+    /// What a record in a book is refused with, in the sheet's order: a book has
+    /// no bytes after a body, but the next record.
+    pub const IN_BOOKS: [Self; 5] = [
+        Self::NoKind,
+        Self::BodyShort,
+        Self::SpareBit,
+        Self::RunMissing,
+        Self::RunsLeft,
+    ];
+
+    /// What a book is refused with where a record is added, in the request's
+    /// order, before the refusals of that record.
+    pub const OF_BOOKS: [Self; 8] = [
+        Self::PlaceOutside,
+        Self::BookLength,
+        Self::NoKind,
+        Self::BodyShort,
+        Self::SpareBit,
+        Self::RunMissing,
+        Self::RunsLeft,
+        Self::SummaryDiffers,
+    ];
+
     /// The refusal's number in the table.
     #[must_use]
     pub const fn number(self) -> u8 {
@@ -159,6 +203,11 @@ impl Refusal {
             Self::TextForm => "text breaks the form or is longer than 4,096 bytes",
             Self::NotSlicing => "the plan is not slicing",
             Self::NameTwice => "one nonzero name on two rooms",
+            Self::BookLength => "used part of a book is or would become longer than 65,535 bytes",
+            Self::PlaceOutside => {
+                "used length beyond the lent slice or a place beyond the used length"
+            }
+            Self::SummaryDiffers => "summary is not the book's",
         }
     }
 }
@@ -176,9 +225,9 @@ mod tests {
     use super::Refusal;
 
     #[test]
-    fn numbers_are_1_to_20_in_the_order_of_the_table() {
+    fn numbers_are_1_to_23_in_the_order_of_the_table() {
         let numbers: Vec<u8> = Refusal::ALL.iter().map(|r| r.number()).collect();
-        assert_eq!(numbers, (1..=20).collect::<Vec<u8>>());
+        assert_eq!(numbers, (1..=23).collect::<Vec<u8>>());
     }
 
     #[test]
@@ -190,5 +239,9 @@ mod tests {
         assert_eq!(numbers(&Refusal::OF_RECORDS), [9, 10, 11, 14, 12, 13]);
         assert_eq!(numbers(&Refusal::OF_TREES), [9, 10, 11, 14, 12, 13, 19]);
         assert_eq!(numbers(&Refusal::OF_TEXTS), [18, 1, 6, 7, 8]);
+        assert_eq!(numbers(&Refusal::OF_NEXT), [22, 21, 9, 10, 14, 12, 13]);
+        assert_eq!(numbers(&Refusal::IN_BOOKS), [9, 10, 14, 12, 13]);
+        let of_books = [22, 21, 9, 10, 14, 12, 13, 23];
+        assert_eq!(numbers(&Refusal::OF_BOOKS), of_books);
     }
 }

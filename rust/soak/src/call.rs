@@ -1,6 +1,6 @@
 //! The calls.
 
-use crate::{labels, patterns, records, rooms, texts};
+use crate::{books, labels, patterns, records, rooms, texts};
 use compare::Tally;
 use reference::cases::Random;
 use reference::Refusal;
@@ -24,8 +24,12 @@ const OF_SLICES: &[Refusal] = &[Refusal::SliceShort];
 /// What the positions of a question can be refused with.
 const OF_POSITIONS: &[Refusal] = &[Refusal::PositionOutside, Refusal::PositionsEqual];
 
+/// What adding to a book can be refused with besides what the book is refused
+/// with: a record may have bytes too many, and the slice too few.
+const OF_ADDING: &[Refusal] = &[Refusal::BytesAfter, Refusal::SliceShort];
+
 /// The calls of the library.
-pub const CALLS: [Call; 7] = [
+pub const CALLS: [Call; 9] = [
     Call {
         name: "Labels in",
         compare_some: labels::compare_some,
@@ -60,6 +64,16 @@ pub const CALLS: [Call; 7] = [
         name: "Pattern",
         compare_some: patterns::compare_some,
         refusals: [&Refusal::OF_PATTERNS, &[]],
+    },
+    Call {
+        name: "Book next",
+        compare_some: books::read_some,
+        refusals: [&Refusal::OF_NEXT, &[]],
+    },
+    Call {
+        name: "Book add",
+        compare_some: books::add_some,
+        refusals: [&Refusal::OF_BOOKS, OF_ADDING],
     },
 ];
 

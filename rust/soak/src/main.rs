@@ -10,6 +10,7 @@
 
 #![forbid(unsafe_code)]
 
+mod books;
 mod call;
 mod labels;
 mod patterns;
@@ -26,7 +27,7 @@ use std::sync::atomic::{AtomicUsize, Ordering};
 use std::{env, panic, process, thread};
 
 /// Batches, unless the argument says otherwise.
-const BATCHES: usize = 8_750;
+const BATCHES: usize = 9_000;
 
 const THREADS: usize = 2;
 

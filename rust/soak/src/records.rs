@@ -118,7 +118,7 @@ fn with_damage(record: Vec<u8>, random: &mut Random) -> [Vec<u8>; RECORDS] {
 }
 
 /// A record with damage, or sometimes random bytes.
-fn damaged(record: &[u8], random: &mut Random) -> Vec<u8> {
+pub fn damaged(record: &[u8], random: &mut Random) -> Vec<u8> {
     match random.below(16) {
         0 => any_bytes(random.pick(&[0, 1, 2, 3, 98, 200]), random),
         1 => any_body(random),

@@ -22,7 +22,7 @@ enum-known-answer-2 : tie.Need-enum-known-answer-2
 enum-known-answer-2 c = search needs
 
 bad-record-requires : tie.Need-bad-record-requires
-bad-record-requires c κs = subst NextFits (c .before .answer2 .given .1) (c .before .before .before .pre)
+bad-record-requires c κs = omega (arith, subst NextFits (c .before .answer2 .given .1) (c .before .before .before .pre))
 
 enum-known-answer-3 : tie.Need-enum-known-answer-3
 enum-known-answer-3 c = search needs
