@@ -35,8 +35,8 @@ pub reach-small : (lowest : ℕ) → reach lowest ≤ 16
 reach-small lowest = elim (le-or-lt 8 lowest) [ inl l ↦ omega (arith, reach-one lowest l) | inr l ↦ omega (arith, reach-two lowest l) ]
 
 -- ---- a masked word
-pub masked-fits : (n m : ℕ) → m < 256 → bitAnd n m < 256
-masked-fits n m h = omega (arith, and-le-r n m)
+pub masked-fits : (n m k : ℕ) → m < k → bitAnd n m < k
+masked-fits n m k h = omega (arith, and-le-r n m)
 
 -- ---- a list shows a word
 bit-of-high : (word i : ℕ) → i < 8 → bitIn (word / 256) i ≡ bitOfWord word i

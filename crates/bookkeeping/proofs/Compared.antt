@@ -1,7 +1,6 @@
 -- A summary is a book's where three totals are and the rises are what is left of the rooms.
-use mathlib.Core.Bool.{Bool, not, true, false}
 use mathlib.Core.List.{List}
-use mathlib.Core.Path.{_≡_, refl, sym, ap}
+use mathlib.Core.Path.{_≡_, ap}
 use Prim.Native.Nat.{ℕ}
 use native.Mathlib.Omega.{arith}
 use Rattle.book.specs.Book.{recordsOf}
@@ -27,12 +26,3 @@ module _ {bytes : List ℕ} {plans rooms falls : ℕ} (sums : Sums bytes plans r
       let b : s .rooms ≡ rooms = omega (arith, ap (λ (t : Summary). t .rooms) e, sums .rooms-are) in
       let c : s .falls ≡ falls = omega (arith, ap (λ (t : Summary). t .falls) e, sums .falls-are) in
       (a, b, c, omega (arith, all, ap (λ (t : Summary). t .rises) e, sums .plans-are, sums .rooms-are, sums .falls-are))
-
--- what a test of a negation shows
-pub not-true : (b : Bool) → not b ≡ true → b ≡ false
-not-true true e = sym e
-not-true false e = refl
-
-pub not-false : (b : Bool) → not b ≡ false → b ≡ true
-not-false true e = refl
-not-false false e = sym e

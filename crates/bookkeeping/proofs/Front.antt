@@ -1,21 +1,17 @@
 -- The record that begins some bytes, as the code cuts it out.
 use mathlib.Core.List.{List, [], _∷_}
-use mathlib.Core.Path.{_≡_, refl, ap, _∙_}
+use mathlib.Core.Path.{_≡_, sym, ap, _∙_}
 use Prim.Native.Nat.{ℕ, zero, suc, _-_, _≤_}
 use native.Mathlib.Omega.{arith}
-use lib.ListN.{length, take, drop, length-take}
-use lib.Seq.{take-nil}
+use lib.ListN.{length, take, drop, length-take, take-append-drop}
+use lib.Seq.{take-nil, take-append-seam}
 use Rattle.book.specs.Book.{sizeOf, front}
 use Rattle.book.specs.Answer.{restAt, recordAt}
 
-take-front : (k : ℕ) (bytes : List ℕ) → take (length (take k bytes)) bytes ≡ take k bytes
-take-front zero bytes = refl
-take-front (suc k) [] = refl
-take-front (suc k) (b ∷ bs) = ap (λ (rest : List ℕ). b ∷ rest) (take-front k bs)
-
 -- so many bytes as the record has are the record
 pub front-taken : (bytes : List ℕ) → take (length (front bytes)) bytes ≡ front bytes
-front-taken bytes = take-front (sizeOf bytes) bytes
+front-taken bytes =
+    ap (take (length (front bytes))) (sym (take-append-drop (sizeOf bytes) bytes)) ∙ take-append-seam (front bytes) (drop (sizeOf bytes) bytes)
 
 pub front-short : (bytes : List ℕ) → length (front bytes) ≤ length bytes
 front-short bytes = omega (arith, length-take (sizeOf bytes) bytes)

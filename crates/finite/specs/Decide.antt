@@ -1,7 +1,7 @@
 -- Deciding a statement: combinations of decided statements, and a Bool that tells which way a decision went.
-use mathlib.Core.Path.{_≡_, refl}
+use mathlib.Core.Path.{_≡_, refl, sym}
 use mathlib.Core.Logic.{_≢_, _⊎_, inl, inr}
-use mathlib.Core.Bool.{Bool, true, false, _&&_, _||_}
+use mathlib.Core.Bool.{Bool, true, false, not, _&&_, _||_}
 use Prim.Native.Nat.{ℕ, _≤_, _<_}
 use native.Mathlib.Omega.{arith}
 use native.Mathlib.Decide.{decLe, ℕ-discrete}
@@ -115,6 +115,15 @@ told-true A t e h = rw e at h
 
 pub told-false : (A : Type 0) (t : Bool) → t ≡ false → Tells t A → ¬ A
 told-false A t e h = rw e at h
+
+-- and one turned round
+pub not-true : (b : Bool) → not b ≡ true → b ≡ false
+not-true true e = sym e
+not-true false e = refl
+
+pub not-false : (b : Bool) → not b ≡ false → b ≡ true
+not-false true e = refl
+not-false false e = sym e
 
 pub tells-same : (A : Type 0) (b c : Bool) → Tells b A → Tells c A → b ≡ c
 tells-same A true true s t = refl

@@ -1,4 +1,3 @@
 -- Laws that the functions' proofs cite.
-pub mod Not
 pub mod Found
 pub mod Answered

@@ -1,6 +1,7 @@
 -- `group_of_word` meets its contract: the shift and the mask with 7 take three digits out.
 use Prim.Native.Nat.{_-_, _*_, _/_, _^_}
-use lib.Bits.{and-mask, and-le-r, mask-lt}
+use lib.Bits.{and-mask, mask-lt}
+use Rattle.bits.proofs.Word.{masked-fits}
 use borrow.Author.Needs.{needs}
 use Rattle.bits.proofs.group_of_word.Statement.{statement}
 use Rattle.bits.proofs.group_of_word.Tie as tie
@@ -18,7 +19,7 @@ shr-result : tie.Need-shr-result
 shr-result c = search needs
 
 cast-result-2 : tie.Need-cast-result-2
-cast-result-2 c = let m = and-le-r (c .args .word / 2 ^ (21 - 3 * c .args .i)) 7 in search (needs, m)
+cast-result-2 c = search (needs, masked-fits)
 
 returns : tie.Need-returns
 returns c =

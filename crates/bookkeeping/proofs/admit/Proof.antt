@@ -3,13 +3,13 @@ use mathlib.Core.Path.{refl, sym, subst}
 use native.Mathlib.Omega.{arith}
 use lib.ListN.{take}
 use lib.Seq.{length-take-le}
-use Rattle.finite.specs.Decide.{told-true, told-false}
+use Rattle.finite.specs.Decide.{told-true, told-false, not-true, not-false}
 use Rattle.book.specs.Demand1.{Fits, Own, beyond, long, bad-book, other, bad-record, too-long, short}
 use Rattle.judging.specs.Judge.{Judges, Accepts}
 use Rattle.judging.specs.declared.Judged.{Judged}
 use Rattle.bookkeeping.specs.Found.{Sums, SumsUp, summaryIn}
 use Rattle.bookkeeping.specs.declared.BookSum.{BookSum}
-use Rattle.bookkeeping.proofs.Compared.{same-own, own-same, not-true, not-false}
+use Rattle.bookkeeping.proofs.Compared.{same-own, own-same}
 use borrow.Author.Needs.{needs}
 use Rattle.bookkeeping.proofs.admit.Statement.{statement}
 use Rattle.bookkeeping.proofs.admit.Tie as tie

@@ -9,7 +9,7 @@ use lib.ListN.{length, take}
 use lib.Seq.{length-take-le}
 use borrow.Author.Needs.{needs}
 use Rattle.finite.specs.Copied.{copied}
-use Rattle.finite.specs.Decide.{stable}
+use Rattle.finite.specs.Decide.{stable, not-true, not-false}
 use Rattle.record.specs.Labels.{labelAt, LabelOutside, LabelTwice}
 use Rattle.record.specs.Barred.{Baxter}
 use Rattle.record.specs.Record.{bodyLength, recordOf}
@@ -18,7 +18,6 @@ use Rattle.record.specs.Judged.{Permutation, Sound, count, outside, twice, not-
 use Rattle.record.specs.Demand1.{refused, short, wrote, demand1-labels-answer}
 use Rattle.record.specs.Demand2.{each-once, once-single, record-length}
 use Rattle.record.specs.declared.LabelsAnswer.the-variants.{Wrote}
-use Rattle.labels.proofs.Not.{not-true, not-false}
 use Rattle.encoding.specs.Encoded.{Encoded}
 use Rattle.labels.proofs.labels_in.Statement.{statement}
 use Rattle.labels.proofs.labels_in.Tie as tie
