@@ -10,8 +10,9 @@ use Rattle.finite.specs.Decide.{Tells, le-or-lt}
 use Rattle.finite.specs.Search.{Some}
 use Rattle.finite.specs.Sum.{sum, sum-same}
 use Rattle.drawing.specs.declared.Room.{Room}
-use Rattle.rooms.specs.Outline.{roomIn, SomeRoom, least, greatest, outline}
-use Rattle.rooms.specs.OutlineLaws.{least-le, greatest-ge, least-largest, greatest-smallest, rooms-within-outline}
+use Rattle.finite.specs.Extremes.{least, greatest, least-same, greatest-same}
+use Rattle.rooms.specs.Outline.{roomIn, SomeRoom, outline}
+use Rattle.rooms.specs.OutlineLaws.{rooms-within-outline}
 use Rattle.rooms.specs.Causes.{RoomSize, Overlap}
 use Rattle.rooms.specs.Corners.{cornersAt, length-rooms, room-of, OneLength}
 use Rattle.checks.specs.CornerLists.{Flat, SharesEarlier}
@@ -70,27 +71,13 @@ module _ (lefts bottoms rights tops : List ℕ) where
       sum-same (λ i. areaOf (corners i)) (λ i. areaOf (roomIn rooms i)) 0 n (λ i l h. ap areaOf (sym (at i h)))
       ∙ ap (sum (λ i. areaOf (roomIn rooms i)) 0) (sym count)
 
-  least-same : (f g : ℕ → ℕ) → 0 < n → ((i : ℕ) → i < n → f i ≡ g i) → least f n ≡ least g (length rooms)
-  least-same f g some same = rw count (omega (
-    arith,
-    least-largest g n (least f n) some (λ i h. omega (arith, same i h, least-le f n i h)),
-    least-largest f n (least g n) some (λ i h. omega (arith, same i h, least-le g n i h)),
-  ))
-
-  greatest-same : (f g : ℕ → ℕ) → ((i : ℕ) → i < n → f i ≡ g i) → greatest f n ≡ greatest g (length rooms)
-  greatest-same f g same = rw count (omega (
-    arith,
-    greatest-smallest f n (greatest g n) (λ i h. omega (arith, same i h, greatest-ge g n i h)),
-    greatest-smallest g n (greatest f n) (λ i h. omega (arith, same i h, greatest-ge f n i h)),
-  ))
-
   -- the box of the lists' least and greatest corners is the outline
   box-is-outline : OneLength lefts bottoms rights tops → 0 < n → (box : Room) → box ≡ outlineOf (listPlan lefts bottoms rights tops) → box ≡ outline rooms
   box-is-outline lengths some box is = is ∙ (λ j. record {
-    left = least-same (λ i. getD lefts i 0) (λ i. roomIn rooms i .left) some (side (λ room. room .left)) j;
-    bottom = (ap (least _) (lengths .bottoms-length) ∙ least-same (λ i. getD bottoms i 0) (λ i. roomIn rooms i .bottom) some (side (λ room. room .bottom))) j;
-    right = (ap (greatest _) (lengths .rights-length) ∙ greatest-same (λ i. getD rights i 0) (λ i. roomIn rooms i .right) (side (λ room. room .right))) j;
-    top = (ap (greatest _) (lengths .tops-length) ∙ greatest-same (λ i. getD tops i 0) (λ i. roomIn rooms i .top) (side (λ room. room .top))) j;
+    left = (least-same (λ i. getD lefts i 0) (λ i. roomIn rooms i .left) n (side (λ room. room .left)) some ∙ ap (least _) (sym count)) j;
+    bottom = (ap (least _) (lengths .bottoms-length) ∙ least-same (λ i. getD bottoms i 0) (λ i. roomIn rooms i .bottom) n (side (λ room. room .bottom)) some ∙ ap (least _) (sym count)) j;
+    right = (ap (greatest _) (lengths .rights-length) ∙ greatest-same (λ i. getD rights i 0) (λ i. roomIn rooms i .right) n (side (λ room. room .right)) ∙ ap (greatest _) (sym count)) j;
+    top = (ap (greatest _) (lengths .tops-length) ∙ greatest-same (λ i. getD tops i 0) (λ i. roomIn rooms i .top) n (side (λ room. room .top)) ∙ ap (greatest _) (sym count)) j;
     name = 0;
   })
     where

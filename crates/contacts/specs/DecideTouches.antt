@@ -11,7 +11,8 @@ use lib.ListN.{length}
 use Rattle.finite.specs.Decide.{dec-×, dec-×₃, dec-⊎, dec-¬, dec-iff}
 use Rattle.drawing.specs.declared.Room.{Room}
 use Rattle.drawing.specs.Drawing.{drawingOf}
-use Rattle.rooms.specs.Outline.{roomIn, outline, least, greatest}
+use Rattle.finite.specs.Extremes.{least, greatest}
+use Rattle.rooms.specs.Outline.{roomIn, outline}
 use Rattle.rooms.specs.Segment.{Stretch, Side, leftEdge, rightEdge, bottomEdge, topEdge, edge, Holds}
 use Rattle.rooms.specs.DecideSegment.{HoldsBoth, dec-holds-both, dec-segment, dec-holds}
 use Rattle.contacts.specs.Inner.{OutlineSide, InnerSegment}

@@ -5,6 +5,7 @@ pub mod First
 pub mod Marks
 pub mod Sum
 pub mod SumBelow
+pub mod Extremes
 pub mod Count
 pub mod Table
 pub mod Fill

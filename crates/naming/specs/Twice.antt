@@ -5,8 +5,7 @@ use Prim.Native.Nat.{ℕ, zero-le}
 use native.Mathlib.Omega.{arith}
 use Rattle.finite.specs.Decide.{le-or-lt}
 use Rattle.finite.specs.Search.{Some}
-use Rattle.rooms.specs.Outline.{greatest}
-use Rattle.rooms.specs.OutlineLaws.{greatest-ge}
+use Rattle.finite.specs.Extremes.{greatest, greatest-ge}
 
 abbrev pub Twice : (name : ℕ → ℕ) (n : ℕ) → Type 0
 Twice name n = Some (λ i. Some (λ j. (i ≢ j) × (name i ≢ 0) × (name i ≡ name j)) 0 n) 0 n

@@ -11,7 +11,8 @@ use Rattle.finite.specs.Search.{Some, dec-some}
 use Rattle.record.specs.Causes.{dec-count}
 use Rattle.drawing.specs.declared.Room.{Room}
 use Rattle.drawing.specs.Tiling.{Different}
-use Rattle.rooms.specs.Outline.{Covers, roomIn, SomeRoom, Corner, least, greatest, outline}
+use Rattle.finite.specs.Extremes.{least, greatest}
+use Rattle.rooms.specs.Outline.{Covers, roomIn, SomeRoom, Corner, outline}
 use Rattle.rooms.specs.Causes.{RoomSize, ShareSquare, Overlap, Uncovered, MeetAtPoint, FourMeet, NameTwice, AcceptedRooms}
 
 unfoldable pub dec-room-size : (rooms : List Room) → Dec (RoomSize rooms)

@@ -11,11 +11,11 @@ use Rattle.finite.specs.Decide.{dec-×, dec-×₃, dec-⊎, dec-¬, dec-iff}
 use Rattle.finite.specs.Search.{Some, dec-some}
 use Rattle.finite.specs.First.{dec-each}
 use Rattle.drawing.specs.declared.Room.{Room}
-use Rattle.rooms.specs.Outline.{roomIn, greatest}
+use Rattle.finite.specs.Extremes.{greatest, greatest-ge}
+use Rattle.rooms.specs.Outline.{roomIn}
 use Rattle.rooms.specs.Segment.{Direction, upright, flat, Stretch, Drawn, Segment, Side, leftEdge, rightEdge, bottomEdge, topEdge, edge, Holds}
 use Rattle.rooms.specs.Orders.{OneSegment, Chain, LeftOf, BelowOf, AboveOf}
 use Rattle.rooms.specs.Chain.{dec-chain}
-use Rattle.rooms.specs.OutlineLaws.{greatest-ge}
 
 -- every drawn unit edge lies before this
 unfoldable pub limit : List Room → ℕ

@@ -7,6 +7,7 @@ use mathlib.Core.List.{List}
 use Prim.Native.Nat.{ℕ, zero, suc, _<_, min, max}
 use lib.ListN.{length, getD}
 use Rattle.finite.specs.Search.{Some, Each}
+use Rattle.finite.specs.Extremes.{least, greatest}
 use Rattle.drawing.specs.declared.Room.{Room}
 -- a room covers the unit square (x, y), the one from the point (x, y) to the point (x + 1, y + 1)
 pub use Rattle.drawing.specs.Squares.{Covers}
@@ -27,15 +28,6 @@ SixteenBits rooms = Each (λ i. (roomIn rooms i .left < 65536) × (roomIn rooms 
 -- the point (x, y) is a corner of the room
 abbrev pub Corner : Room → (x y : ℕ) → Type 0
 Corner room x y = ((room .left ≡ x) ⊎ (room .right ≡ x)) × ((room .bottom ≡ y) ⊎ (room .top ≡ y))
-
--- the least and the greatest of f 0 to f (n - 1)
-unfoldable pub least : (ℕ → ℕ) → (n : ℕ) → ℕ
-least f zero = f 0
-least f (suc n) = min (f n) (least f n)
-
-unfoldable pub greatest : (ℕ → ℕ) → (n : ℕ) → ℕ
-greatest f zero = 0
-greatest f (suc n) = max (f n) (greatest f n)
 
 -- "the smallest box round all rooms"
 abbrev pub outline : List Room → Room

@@ -7,29 +7,8 @@ use native.Mathlib.Nat.{eq-or-lt-of-le, le-of-suc-le-suc, not-suc-le-zero}
 use native.Mathlib.Omega.{arith}
 use lib.ListN.{length}
 use Rattle.drawing.specs.declared.Room.{Room}
-use Rattle.rooms.specs.Outline.{roomIn, least, greatest, outline}
-
-pub least-le : (f : ℕ → ℕ) (n i : ℕ) → i < n → least f n ≤ f i
-unfolding least
-least-le f zero i h = absurd (not-suc-le-zero h)
-least-le f (suc n) i h = elim (eq-or-lt-of-le (le-of-suc-le-suc h)) [ inl e ↦ omega (arith, ap f e) | inr g ↦ omega (arith, least-le f n i g) ]
-
-pub greatest-ge : (f : ℕ → ℕ) (n i : ℕ) → i < n → f i ≤ greatest f n
-unfolding greatest
-greatest-ge f zero i h = absurd (not-suc-le-zero h)
-greatest-ge f (suc n) i h = elim (eq-or-lt-of-le (le-of-suc-le-suc h)) [ inl e ↦ omega (arith, ap f e) | inr g ↦ omega (arith, greatest-ge f n i g) ]
-
--- what lies below all of them lies below the least, what lies above all of them above the greatest
-pub least-largest : (f : ℕ → ℕ) (n bound : ℕ) → 0 < n → ((i : ℕ) → i < n → bound ≤ f i) → bound ≤ least f n
-unfolding least
-least-largest f zero bound some below = absurd (not-suc-le-zero some)
-least-largest f (suc zero) bound some below = omega (arith, below 0 some)
-least-largest f (suc (suc n)) bound some below = omega (arith, below (suc n) (omega arith), least-largest f (suc n) bound (omega arith) (λ i h. below i (omega arith)))
-
-pub greatest-smallest : (f : ℕ → ℕ) (n bound : ℕ) → ((i : ℕ) → i < n → f i ≤ bound) → greatest f n ≤ bound
-unfolding greatest
-greatest-smallest f zero bound above = omega arith
-greatest-smallest f (suc n) bound above = omega (arith, above n (omega arith), greatest-smallest f n bound (λ i h. above i (omega arith)))
+use Rattle.finite.specs.Extremes.{least-le, greatest-ge, least-largest, greatest-smallest}
+use Rattle.rooms.specs.Outline.{roomIn, outline}
 
 -- the room lies in the box
 pub record Within (box room : Room) : Type 0 where

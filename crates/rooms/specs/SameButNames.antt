@@ -11,7 +11,8 @@ use Rattle.finite.specs.Search.{Some, Each}
 use Rattle.record.specs.Causes.{BadCount}
 use Rattle.drawing.specs.declared.Room.{Room}
 use Rattle.drawing.specs.Tiling.{Different}
-use Rattle.rooms.specs.Outline.{roomIn, least, greatest}
+use Rattle.finite.specs.Extremes.{least, greatest}
+use Rattle.rooms.specs.Outline.{roomIn}
 use Rattle.rooms.specs.Causes.{RoomSize, ShareSquare, Overlap, Uncovered, MeetAtPoint, FourMeet, NameTwice, AcceptedRooms}
 use Rattle.rooms.specs.Segment.{Direction, upright, flat, Stretch, Drawn, Segment, Side, leftEdge, rightEdge, bottomEdge, topEdge, edge}
 use Rattle.rooms.specs.Plan.{Plan, roomOf, RoomCovers, OutlineCovers}

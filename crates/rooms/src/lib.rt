@@ -3,7 +3,7 @@
 ghost use mathlib.Core.Path.{_≡_};
 ghost use Prim.Native.Nat.{_<_, min, max};
 ghost use lib.ListN.{length, getD};
-ghost use Rattle.rooms.specs.Outline.{least, greatest};
+ghost use Rattle.finite.specs.Extremes.{least, greatest};
 
 // The smaller of two corners, and the larger. The compiler makes no jump of them.
 pub fn smaller(a: u16, b: u16) -> u16

@@ -2,7 +2,7 @@
 use Prim.Native.Nat.{ℕ, _*_, _/_, _<_}
 use native.Mathlib.Omega.{arith}
 use lib.ListN.{length, getD}
-use Rattle.rooms.specs.OutlineLaws.{greatest-ge}
+use Rattle.finite.specs.Extremes.{greatest-ge}
 use Rattle.naming.specs.Twice.{unnamed→not-twice}
 use Rattle.naming.specs.BitTable.{bit-none}
 use borrow.Author.Needs.{needs}

@@ -3,8 +3,7 @@ use Prim.Native.Nat.{_≤_, _-_}
 use native.Mathlib.Omega.{arith}
 use lib.ListN.{length, getD}
 use mathlib.Core.Path.{_≡_, refl, ap, _∙_}
-use Rattle.rooms.specs.Outline.{greatest}
-use Rattle.rooms.proofs.Extremes.{greatest-more}
+use Rattle.finite.specs.Extremes.{greatest, greatest-more}
 use borrow.Author.Needs.{needs}
 use Rattle.rooms.proofs.highest.Statement.{statement}
 use Rattle.rooms.proofs.highest.Tie as tie

@@ -3,8 +3,7 @@ use Prim.Native.Nat.{_≤_, _-_}
 use native.Mathlib.Omega.{arith}
 use lib.ListN.{length, getD}
 use mathlib.Core.Path.{_≡_, ap, _∙_}
-use Rattle.rooms.specs.Outline.{least}
-use Rattle.rooms.proofs.Extremes.{least-of-one, least-more}
+use Rattle.finite.specs.Extremes.{least, least-of-one, least-more}
 use borrow.Author.Needs.{needs}
 use Rattle.rooms.proofs.lowest.Statement.{statement}
 use Rattle.rooms.proofs.lowest.Tie as tie
