@@ -1007,6 +1007,280 @@ static void test_books(void) {
     test_last_ordinal();
 }
 
+/* ---- Sizes */
+
+/* A record with the sizes of its rooms, as a user has them. */
+typedef struct {
+    const uint8_t *record;
+    size_t length;
+    const uint16_t *widths;
+    size_t widths_length;
+    const uint16_t *heights;
+    size_t heights_length;
+} sized;
+
+/* The sheet's pinwheel, and its lowest corners. */
+static const uint8_t five_record[] = {0x05, 0x31, 0x70};
+static const uint16_t five_widths[] = {3, 1, 4, 1, 5}, five_heights[] = {9, 2, 6, 5, 3};
+static const sized five_sized = {five_record, 3, five_widths, 5, five_heights, 5};
+static const uint32_t five_x[] = {0, 0, 1, 5, 1}, five_y[] = {0, 9, 9, 0, 15};
+
+typedef struct {
+    uint32_t x[NENTURXO_ROOMS_CAPACITY];
+    uint32_t y[NENTURXO_ROOMS_CAPACITY];
+} corners_out;
+
+/* With so many places for x, and for y. */
+static int32_t lowest_corners(const sized *plan, size_t x_places, size_t y_places,
+                              corners_out *out) {
+    memset(out, UNTOUCHED, sizeof *out);
+    return nenturxo_lowest_corners(plan->record, plan->length, plan->widths, plan->widths_length,
+                                   plan->heights, plan->heights_length, out->x, x_places, out->y,
+                                   y_places);
+}
+
+/* The two numbers are apart[1] and apart[3], each between two others that stay
+ * as they were. */
+static int32_t slack(const sized *plan, uint32_t width, uint32_t height, int64_t *apart) {
+    int32_t code;
+    memset(apart, UNTOUCHED, 5 * sizeof *apart);
+    code = nenturxo_slack(plan->record, plan->length, plan->widths, plan->widths_length,
+                          plan->heights, plan->heights_length, width, height, &apart[1], &apart[3]);
+    CHECK(all_untouched(&apart[0], sizeof *apart));
+    CHECK(all_untouched(&apart[2], sizeof *apart));
+    CHECK(all_untouched(&apart[4], sizeof *apart));
+    return code;
+}
+
+/* Corners, as many x as y. */
+static int32_t placing_in(const sized *plan, const uint32_t *x, const uint32_t *y, size_t n) {
+    return nenturxo_placing_in(plan->record, plan->length, plan->widths, plan->widths_length,
+                               plan->heights, plan->heights_length, x, n, y, n);
+}
+
+/* All three calls, with slices that are long enough and with none, and with a
+ * placing that has five rooms in one place. */
+static void refuses_sized(const sized *plan, int refusal) {
+    const uint32_t together[] = {0, 0, 0, 0, 0};
+    corners_out out;
+    int64_t numbers[5];
+    CHECK(lowest_corners(plan, COUNT(out.x), COUNT(out.y), &out) == -refusal);
+    CHECK(all_untouched(&out, sizeof out));
+    CHECK(lowest_corners(plan, 0, 0, &out) == -refusal);
+    CHECK(all_untouched(&out, sizeof out));
+    CHECK(slack(plan, 10, 10, numbers) == -refusal);
+    CHECK(all_untouched(numbers, sizeof numbers));
+    CHECK(placing_in(plan, together, together, 5) == -refusal);
+}
+
+/* With so many places the five have the corners above. */
+static void five_are_placed(size_t x_places, size_t y_places) {
+    corners_out out;
+    CHECK(lowest_corners(&five_sized, x_places, y_places, &out) == 5);
+    CHECK(memcmp(out.x, five_x, sizeof five_x) == 0);
+    CHECK(memcmp(out.y, five_y, sizeof five_y) == 0);
+    CHECK(all_untouched(out.x + 5, sizeof out.x - sizeof five_x));
+    CHECK(all_untouched(out.y + 5, sizeof out.y - sizeof five_y));
+}
+
+static void test_lowest_corners(void) {
+    const size_t most = NENTURXO_ROOMS_CAPACITY;
+    const uint8_t one_record[] = {0x01};
+    const uint16_t one_width[] = {65535}, one_height[] = {1};
+    const sized one = {one_record, 1, one_width, 1, one_height, 1};
+    corners_out out;
+
+    five_are_placed(5, 5);
+    five_are_placed(6, 5);
+    five_are_placed(5, 6);
+    five_are_placed(most, most);
+    CHECK(lowest_corners(&five_sized, 4, 5, &out) == -NENTURXO_SLICE_SHORT);
+    CHECK(all_untouched(&out, sizeof out));
+    CHECK(lowest_corners(&five_sized, 5, 4, &out) == -NENTURXO_SLICE_SHORT);
+    CHECK(all_untouched(&out, sizeof out));
+    CHECK(lowest_corners(&five_sized, 0, most, &out) == -NENTURXO_SLICE_SHORT);
+    CHECK(all_untouched(&out, sizeof out));
+
+    CHECK(lowest_corners(&one, 1, 1, &out) == 1);
+    CHECK(out.x[0] == 0 && out.y[0] == 0);
+    CHECK(all_untouched(out.x + 1, sizeof out.x - sizeof *out.x));
+    CHECK(all_untouched(out.y + 1, sizeof out.y - sizeof *out.y));
+    CHECK(lowest_corners(&one, 1, 0, &out) == -NENTURXO_SLICE_SHORT);
+    CHECK(all_untouched(&out, sizeof out));
+}
+
+/* An outline of this width and height leaves so much, across and up. */
+static void leaves(const sized *plan, uint32_t width, uint32_t height, int64_t across, int64_t up) {
+    int64_t numbers[5];
+    CHECK(slack(plan, width, height, numbers) == 0);
+    CHECK(numbers[1] == across);
+    CHECK(numbers[3] == up);
+}
+
+/* The five need 6 across and 18 up. */
+static void test_slack(void) {
+    const int64_t most = UINT32_MAX;
+    leaves(&five_sized, 10, 10, 4, -8);
+    leaves(&five_sized, 6, 18, 0, 0);
+    leaves(&five_sized, 5, 19, -1, 1);
+    leaves(&five_sized, 0, 0, -6, -18);
+    leaves(&five_sized, UINT32_MAX, 0, most - 6, -18);
+    leaves(&five_sized, 0x80000000u, UINT32_MAX, INT64_C(0x80000000) - 6, most - 18);
+}
+
+/* The lowest placing is accepted, and so is one with every room further on; but
+ * not with any one corner lower, unless it is at 0 already. */
+static void test_five_placings(void) {
+    uint32_t x[5], y[5];
+    int i;
+
+    memcpy(x, five_x, sizeof x);
+    memcpy(y, five_y, sizeof y);
+    CHECK(placing_in(&five_sized, x, y, 5) == 0);
+    for (i = 0; i < 5; i++) {
+        x[i]--;
+        CHECK(x[i] == UINT32_MAX || placing_in(&five_sized, x, y, 5) == -NENTURXO_RELATION_BROKEN);
+        x[i]++;
+        y[i]--;
+        CHECK(y[i] == UINT32_MAX || placing_in(&five_sized, x, y, 5) == -NENTURXO_RELATION_BROKEN);
+        y[i]++;
+    }
+    for (i = 0; i < 5; i++) {
+        x[i] += 4000000000u;
+        y[i] = 3 * y[i] + 7;
+    }
+    CHECK(placing_in(&five_sized, x, y, 5) == 0);
+    /* nothing is on its right or above it */
+    x[3] = y[4] = UINT32_MAX;
+    CHECK(placing_in(&five_sized, x, y, 5) == 0);
+}
+
+/* Where a room ends is no number of 32 bits: it does not begin again at 0. */
+static void test_far_placings(void) {
+    const uint8_t beside[] = {0x02, 0x40}, above[] = {0x02, 0xA0};
+    const uint16_t widths[] = {3, 65535}, heights[] = {4, 65535};
+    const sized row = {beside, 2, widths, 2, heights, 2};
+    const sized column = {above, 2, widths, 2, heights, 2};
+    const uint32_t most = UINT32_MAX, same[] = {most, most};
+    const uint32_t good[] = {most - 4, most};
+    const uint32_t bad[][2] = {{most - 2, most}, {most, most}, {most, 2}, {most, 4}};
+    size_t i;
+
+    CHECK(placing_in(&row, good, same, 2) == 0);
+    CHECK(placing_in(&column, same, good, 2) == 0);
+    for (i = 0; i < COUNT(bad); i++) {
+        CHECK(placing_in(&row, bad[i], same, 2) == -NENTURXO_RELATION_BROKEN);
+        CHECK(placing_in(&column, same, bad[i], 2) == -NENTURXO_RELATION_BROKEN);
+    }
+}
+
+/* 255 rooms of the greatest size in a row: no end is beyond 24 bits. */
+static void test_long_row(void) {
+    uint8_t labels[NENTURXO_ROOMS_CAPACITY], record[NENTURXO_RECORD_CAPACITY];
+    uint16_t sizes[NENTURXO_ROOMS_CAPACITY];
+    sized row = {record, sizeof record, sizes, 255, sizes, 255};
+    corners_out out;
+    uint32_t i;
+
+    for (i = 0; i < 255; i++) {
+        labels[i] = (uint8_t)(i + 1);
+        sizes[i] = 65535;
+    }
+    CHECK(nenturxo_labels_in(labels, 255, record, sizeof record) == NENTURXO_RECORD_CAPACITY);
+    CHECK(lowest_corners(&row, 255, 255, &out) == 255);
+    for (i = 0; i < 255; i++) {
+        CHECK(out.x[i] == 65535 * i && out.y[i] == 0);
+    }
+    CHECK(placing_in(&row, out.x, out.y, 255) == 0);
+    leaves(&row, 0x1000000, 65535, 0x1000000 - 255 * 65535, 0);
+    /* the last room begins too early for the first one alone */
+    out.x[254] = 65534;
+    CHECK(placing_in(&row, out.x, out.y, 255) == -NENTURXO_RELATION_BROKEN);
+    sizes[254] = 0;
+    CHECK(lowest_corners(&row, 0, 0, &out) == -NENTURXO_ZERO_SIZE);
+}
+
+/* Lists of another length than n, also of n and 256 more: of each list by
+ * itself, and before a size of 0, a broken relation and a short slice. */
+static void test_lengths(void) {
+    const size_t lengths[] = {0, 1, 4, 6, 255, 256, 261};
+    static const uint16_t zeros[261] = {0};
+    static const uint32_t corners[261] = {0};
+    corners_out out;
+    size_t i;
+
+    for (i = 0; i < COUNT(lengths); i++) {
+        sized plan = five_sized;
+        plan.heights = zeros;
+        plan.heights_length = lengths[i];
+        refuses_sized(&plan, NENTURXO_LENGTH_DIFFERS);
+        plan.heights_length = 5;
+        plan.widths = zeros;
+        plan.widths_length = lengths[i];
+        refuses_sized(&plan, NENTURXO_LENGTH_DIFFERS);
+        plan.widths_length = 5;
+        refuses_sized(&plan, NENTURXO_ZERO_SIZE);
+        CHECK(nenturxo_placing_in(five_record, 3, zeros, 5, zeros, 5, corners, lengths[i], corners,
+                                  5) == -NENTURXO_LENGTH_DIFFERS);
+        CHECK(nenturxo_placing_in(five_record, 3, zeros, 5, zeros, 5, corners, 5, corners,
+                                  lengths[i]) == -NENTURXO_LENGTH_DIFFERS);
+        CHECK(placing_in(&five_sized, corners, corners, lengths[i]) == -NENTURXO_LENGTH_DIFFERS);
+    }
+    CHECK(placing_in(&five_sized, corners, corners, 5) == -NENTURXO_RELATION_BROKEN);
+    CHECK(lowest_corners(&five_sized, 0, 0, &out) == -NENTURXO_SLICE_SHORT);
+}
+
+/* A size of 0 at each place, before a broken relation and a short slice. */
+static void test_zero_sizes(void) {
+    int i;
+    for (i = 0; i < 5; i++) {
+        uint16_t sizes[] = {1, 256, 1, 256, 65535};
+        sized plan = five_sized;
+        sizes[i] = 0;
+        plan.widths = sizes;
+        refuses_sized(&plan, NENTURXO_ZERO_SIZE);
+        plan.widths = five_widths;
+        plan.heights = sizes;
+        refuses_sized(&plan, NENTURXO_ZERO_SIZE);
+    }
+}
+
+/* The refusals of a record come before those of the lists. */
+static void test_records_with_sizes(void) {
+    const uint8_t records[][2] = {{0x00, 0x00}, {0x02, 0x00}, {0x01, 0x00},
+                                  {0x02, 0xC1}, {0x02, 0x60}, {0x02, 0x00}};
+    const size_t lengths[] = {1, 1, 2, 2, 2, 2};
+    const int refusals[] = {NENTURXO_NO_KIND,   NENTURXO_BODY_SHORT,  NENTURXO_BYTES_AFTER,
+                            NENTURXO_SPARE_BIT, NENTURXO_RUN_MISSING, NENTURXO_RUNS_LEFT};
+    const uint16_t zeros[] = {0, 0, 0};
+    sized plan = five_sized;
+    size_t i;
+
+    plan.length = 0;
+    refuses_sized(&plan, NENTURXO_NO_KIND);
+    plan.widths = plan.heights = zeros;
+    for (i = 0; i < COUNT(records); i++) {
+        plan.record = records[i];
+        plan.length = lengths[i];
+        plan.widths_length = plan.heights_length = 2;
+        refuses_sized(&plan, refusals[i]);
+        plan.widths_length = 3;
+        plan.heights_length = 0;
+        refuses_sized(&plan, refusals[i]);
+    }
+}
+
+static void test_sizes(void) {
+    test_lowest_corners();
+    test_slack();
+    test_five_placings();
+    test_far_placings();
+    test_long_row();
+    test_lengths();
+    test_zero_sizes();
+    test_records_with_sizes();
+}
+
 int main(void) {
     test_labels_in();
     test_rooms_in();
@@ -1016,6 +1290,7 @@ int main(void) {
     test_tree();
     test_pattern();
     test_books();
+    test_sizes();
     CHECK(sum(never_written, sizeof never_written) == 0);
     printf("%d checks of the C interface, %d failed\n", checks, failures);
     return failures == 0 ? 0 : 1;

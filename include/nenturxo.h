@@ -10,13 +10,15 @@
  * refusal's number negated (enum nenturxo_refusal), which the calls on books
  * give with more to it. A refused call writes nothing. A call that is not
  * refused writes from the front of its output slices, or from the place that is
- * named at it, and leaves the rest of each as it was.
+ * named at it, and leaves the rest of each as it was. A call that has further
+ * numbers to give writes each through a pointer of its own.
  *
  * No call allocates, keeps a pointer, or uses anything but its arguments, so
  * calls may run at the same time in any number of threads. What the caller
  * answers for: a pointer is good for as many elements as the length beside it
- * says, and is not null, even where the length is 0; and no output slice
- * overlaps another slice of the same call.
+ * says, or for one number if there is no length, and is not null, even where
+ * the length is 0; and no output, slice or number, overlaps anything else that
+ * is handed to the same call.
  */
 #ifndef NENTURXO_H
 #define NENTURXO_H
@@ -65,7 +67,10 @@ enum nenturxo_refusal {
     NENTURXO_NAME_TWICE = 20,      /* one nonzero name on two rooms */
     NENTURXO_BOOK_LENGTH = 21,     /* used part of a book is or would become longer than 65,535 bytes */
     NENTURXO_PLACE_OUTSIDE = 22,   /* used length beyond the lent slice or a place beyond the used length */
-    NENTURXO_SUMMARY_DIFFERS = 23  /* summary is not the book's */
+    NENTURXO_SUMMARY_DIFFERS = 23, /* summary is not the book's */
+    NENTURXO_LENGTH_DIFFERS = 24,  /* a list whose length is not n */
+    NENTURXO_ZERO_SIZE = 25,       /* a size of 0 */
+    NENTURXO_RELATION_BROKEN = 26  /* a placing that breaks a relation */
 };
 
 /* A bad record in a book is refused by its own number together with its
@@ -285,6 +290,77 @@ int32_t nenturxo_book_add(uint8_t *book, size_t lent, size_t used,
                           const uint8_t *record, size_t length,
                           uint32_t *plans, uint32_t *rooms,
                           uint32_t *rises, uint32_t *falls);
+
+/* Lowest corners: where the rooms of a plan go if each has a size of its own and
+ * stands as far to the left and as low as it can.
+ *
+ * record     the record's bytes, all of them and no more
+ * widths     the width of the room at each position, from position 1: n numbers
+ *            from 1 to 65,535
+ * heights    its height, likewise
+ * x          gets the left edge of the room at each position
+ * y          gets its bottom edge, likewise
+ *
+ * A room starts where the furthest room left of it ends, or at 0, and likewise
+ * upward, where the furthest room below it ends. No placing from 0 up that
+ * honours all left and below relations puts any corner lower, and this is the
+ * only one of which that holds. Its rooms share no unit square, and all of them
+ * end below 2^24 both ways.
+ *
+ * The record 05 31 70 with the widths 3 1 4 1 5 and the heights 9 2 6 5 3 gives
+ * x 0 0 1 5 1 and y 0 9 9 0 15.
+ *
+ * Gives the number of rooms, n: slices of 255 are always enough. Refusals, in
+ * this order: 9, 10, 11, 14, 12, 13, 24 for widths or heights, 25, 15. */
+int32_t nenturxo_lowest_corners(const uint8_t *record, size_t length,
+                                const uint16_t *widths, size_t widths_length,
+                                const uint16_t *heights, size_t heights_length,
+                                uint32_t *x, size_t x_capacity,
+                                uint32_t *y, size_t y_capacity);
+
+/* Slack: how much an outline leaves free of what such rooms need.
+ *
+ * record, widths, heights   as for nenturxo_lowest_corners
+ * outline_width             the width of the outline, any number
+ * outline_height            its height, likewise
+ * across                    gets the slack from left to right
+ * up                        gets the slack from bottom to top
+ *
+ * The slack each way is the outline less the needed length, which is the
+ * furthest end of any room in that direction at the lowest corners. It may be
+ * below 0. It is 0 or more both ways exactly if some placing that honours the
+ * relations fits the outline.
+ *
+ * The rooms of the example above need 6 across and 18 up, so an outline of 10 by
+ * 10 has the slack 4 across and -8 up.
+ *
+ * Gives 0. Refusals, in this order, after which both numbers are as they were:
+ * 9, 10, 11, 14, 12, 13, 24 for widths or heights, 25. */
+int32_t nenturxo_slack(const uint8_t *record, size_t length,
+                       const uint16_t *widths, size_t widths_length,
+                       const uint16_t *heights, size_t heights_length,
+                       uint32_t outline_width, uint32_t outline_height,
+                       int64_t *across, int64_t *up);
+
+/* Placing in: whether a placing of such rooms, wherever it comes from, honours
+ * the relations of the plan.
+ *
+ * record, widths, heights   as for nenturxo_lowest_corners
+ * x                         the left edge of the room at each position, from
+ *                           position 1: n numbers, any
+ * y                         its bottom edge, likewise
+ *
+ * A placing is accepted exactly if each room ends, across, no later than every
+ * room right of it begins, and upward no later than every room above it begins.
+ * Where a room ends is the sum of two whole numbers, which may be 2^32 or more.
+ *
+ * Nothing is written. Gives 0 for a placing that is accepted. Refusals, in this
+ * order: 9, 10, 11, 14, 12, 13, 24 for any of the four lists, 25, 26. */
+int32_t nenturxo_placing_in(const uint8_t *record, size_t length,
+                            const uint16_t *widths, size_t widths_length,
+                            const uint16_t *heights, size_t heights_length,
+                            const uint32_t *x, size_t x_length,
+                            const uint32_t *y, size_t y_length);
 
 #ifdef __cplusplus
 }

@@ -50,6 +50,11 @@ unfoldable pub dec-¬ : {A : Type 0} → Dec A → Dec (¬ A)
 dec-¬ (yes a) = no (λ f. f a)
 dec-¬ (no h) = yes h
 
+unfoldable pub dec-→ : {A B : Type 0} → Dec A → Dec B → Dec (A → B)
+dec-→ (no h) b = yes (λ a. absurd (h a))
+dec-→ (yes a) (yes b) = yes (λ x. b)
+dec-→ (yes a) (no h) = no (λ f. h (f a))
+
 unfoldable pub dec-true : (b : Bool) → Dec (b ≡ true)
 dec-true true = yes refl
 dec-true false = no (λ e. let z : _≡_ {A = ℕ} 0 1 = cc in omega arith)
@@ -97,6 +102,10 @@ tells-less a b = go (ltb a b) refl
     go : (t : Bool) → ltb a b ≡ t → Tells t (a < b)
     go true e = ltb-true a b e
     go false e = λ h. omega (arith, ltb-false a b e)
+
+pub tells-not : (A : Type 0) (t : Bool) → Tells t A → Tells (not t) (¬ A)
+tells-not A true h = λ n. n h
+tells-not A false h = h
 
 -- two Bools tell of both statements, and of either
 pub tells-both : (A B : Type 0) (s t : Bool) → Tells s A → Tells t B → Tells (s && t) (A × B)

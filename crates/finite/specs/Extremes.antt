@@ -1,6 +1,6 @@
 -- The least and the greatest of the numbers f 0 to f (n - 1).
 use mathlib.Core.Path.{_≡_, ap}
-use mathlib.Core.Logic.{inl, inr}
+use mathlib.Core.Logic.{inl, inr, ite}
 use Prim.Native.Nat.{ℕ, zero, suc, _+_, _≤_, _<_, min, max}
 use native.Mathlib.Nat.{eq-or-lt-of-le, le-of-suc-le-suc, not-suc-le-zero}
 use native.Mathlib.Omega.{arith}
@@ -66,3 +66,30 @@ module _ (f g : ℕ → ℕ) (n : ℕ) (same : (i : ℕ) → i < n → f i ≡ g
     greatest-smallest f n (greatest g n) (λ i h. omega (arith, same i h, greatest-ge g n i h)),
     greatest-smallest g n (greatest f n) (λ i h. omega (arith, same i h, greatest-ge f n i h)),
   )
+
+-- ---- the greatest of those of them that have a property, 0 if none has
+abbrev pub greatestOf : (P : ℕ → Type 0) → ((i : ℕ) → Dec (P i)) → (ℕ → ℕ) → (n : ℕ) → ℕ
+greatestOf P d f n = greatest (λ i. ite (d i) (f i) 0) n
+
+module _ (P : ℕ → Type 0) (d : (i : ℕ) → Dec (P i)) (f : ℕ → ℕ) where
+  pub greatest-of-ge : (n i : ℕ) → i < n → P i → f i ≤ greatestOf P d f n
+  greatest-of-ge n i h p = go (d i) (greatest-ge (λ i. ite (d i) (f i) 0) n i h)
+    where
+      go : {z : ℕ} (e : Dec (P i)) → ite e (f i) 0 ≤ z → f i ≤ z
+      go (yes q) h = h
+      go (no q) h = absurd (q p)
+
+  pub greatest-of-smallest : (n bound : ℕ) → ((i : ℕ) → i < n → P i → f i ≤ bound) → greatestOf P d f n ≤ bound
+  greatest-of-smallest n bound above = greatest-smallest (λ i. ite (d i) (f i) 0) n bound (λ i h. go i (d i) (above i h))
+    where
+      go : (i : ℕ) (e : Dec (P i)) → (P i → f i ≤ bound) → ite e (f i) 0 ≤ bound
+      go i (yes q) h = h q
+      go i (no q) h = omega arith
+
+pub greatest-of-same : (P : ℕ → Type 0) (d : (i : ℕ) → Dec (P i)) (f g : ℕ → ℕ) (n : ℕ) → ((i : ℕ) → i < n → P i → f i ≡ g i)
+    → greatestOf P d f n ≡ greatestOf P d g n
+greatest-of-same P d f g n same = omega (
+  arith,
+  greatest-of-smallest P d f n (greatestOf P d g n) (λ i h p. omega (arith, same i h p, greatest-of-ge P d g n i h p)),
+  greatest-of-smallest P d g n (greatestOf P d f n) (λ i h p. omega (arith, same i h p, greatest-of-ge P d f n i h p)),
+)

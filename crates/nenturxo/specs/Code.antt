@@ -20,6 +20,12 @@ use Rattle.answers.specs.declared.RecordAnswer.{RecordAnswer}
 use Rattle.answers.specs.declared.RecordAnswer.the-variants as recordIn
 use Rattle.slicing.specs.declared.TreeAnswer.{TreeAnswer}
 use Rattle.slicing.specs.declared.TreeAnswer.the-variants as tree
+use Rattle.sizes.specs.declared.CornersAnswer.{CornersAnswer}
+use Rattle.sizes.specs.declared.CornersAnswer.the-variants as corners
+use Rattle.sizes.specs.declared.SlackAnswer.{SlackAnswer}
+use Rattle.sizes.specs.declared.SlackAnswer.the-variants as slack
+use Rattle.sizes.specs.declared.PlacingAnswer.{PlacingAnswer}
+use Rattle.sizes.specs.declared.PlacingAnswer.the-variants as placing
 use Rattle.book.specs.declared.NextAnswer.{NextAnswer}
 use Rattle.book.specs.declared.NextAnswer.the-variants as next
 use Rattle.book.specs.declared.AddAnswer.{AddAnswer}
@@ -109,3 +115,18 @@ abbrev pub addCode : AddAnswer → ℤ
 addCode (add.Added size) = pos size
 addCode (add.BadRecord refusal ordinal) = badRecordCode refusal ordinal
 addCode (add.Refused refusal) = refusalCode refusal
+
+-- Lowest corners: the number of rooms
+abbrev pub cornersCode : CornersAnswer → ℤ
+cornersCode (corners.Placed n) = pos n
+cornersCode (corners.Refused refusal) = refusalCode refusal
+
+-- Slack: 0, the slack itself being left in two numbers
+abbrev pub slackCode : SlackAnswer → ℤ
+slackCode (slack.Slack x y) = pos 0
+slackCode (slack.Refused refusal) = refusalCode refusal
+
+-- Placing in: 0 for a placing that is accepted
+abbrev pub placingCode : PlacingAnswer → ℤ
+placingCode placing.Accepted = pos 0
+placingCode (placing.Refused refusal) = refusalCode refusal

@@ -8,12 +8,15 @@ ghost use Rattle.labeltext.specs.Answer.{Tidied};
 ghost use Rattle.answers.specs.Answer.{Few, slices, RecordIn};
 ghost use Rattle.slicing.specs.Answer.{TreeIn};
 ghost use Rattle.questions.specs.Answer.{questionAnswer};
+ghost use Rattle.sizes.specs.Lists.{eachWay};
+ghost use Rattle.sizes.specs.Answer.{LowestCorners, SlackIn, placingAnswer};
 ghost use Rattle.book.specs.Summary.{held};
 ghost use Rattle.book.specs.Answer.{nextAnswer, BookAdd};
 ghost use Rattle.entering.specs.Answer.{slices as roomSlices, RoomsIn};
 ghost use Rattle.nenturxo.specs.Code.{Coded, refusalCode, roomsCode, labelsCode, tidyCode, recordCode, treeCode};
 ghost use Rattle.nenturxo.specs.Code.{patternNumber, patternCode, relationNumber, relatedNumber, questionCode};
 ghost use Rattle.nenturxo.specs.Code.{badRecordCode, nextCode, addCode};
+ghost use Rattle.nenturxo.specs.Code.{cornersCode, slackCode, placingCode};
 ghost use Rattle.nenturxo.specs.Size.{AtMost97, NextFits, AddFits};
 use answers::RecordAnswer;
 use book::AddAnswer;
@@ -29,6 +32,9 @@ use questions::QuestionAnswer;
 use record::LabelsAnswer;
 use record::Position;
 use record::Refusal;
+use sizes::CornersAnswer;
+use sizes::PlacingAnswer;
+use sizes::SlackAnswer;
 use slicing::TreeAnswer;
 
 // A refusal's number, negated.
@@ -258,4 +264,67 @@ pub extern "C" fn nenturxo_book_add(
 {
     let answer = bookkeeping::add_record(book, used, record, plans, rooms, rises, falls);
     add_code(answer)
+}
+
+// Lowest corners: the number of rooms, with their corners by position from the front of the slices, or the refusal's number negated, and
+// nothing written.
+#[no_mangle]
+pub extern "C" fn nenturxo_lowest_corners(
+    record: &[u8],
+    widths: &[u16],
+    heights: &[u16],
+    x: &mut [u32],
+    y: &mut [u32],
+) -> i32
+    ensures { λ r. ⌜ Coded cornersCode r (λ answer. LowestCorners (now («record» .entry))
+        (eachWay (now (widths .entry)) (now (heights .entry))) (eachWay (now (x .entry)) (now (y .entry))) answer
+        (eachWay (now (x .exit)) (now (y .exit)))) ⌝ }
+{
+    match packing::lowest_corners(record, widths, heights, x, y) {
+        CornersAnswer::Placed(n) => n as i32,
+        CornersAnswer::Refused(refusal) => refused(refusal),
+    }
+}
+
+// Slack: 0, with the slack across and upward in two numbers, or the refusal's number negated, and nothing written.
+#[no_mangle]
+pub extern "C" fn nenturxo_slack(
+    record: &[u8],
+    widths: &[u16],
+    heights: &[u16],
+    outline_width: u32,
+    outline_height: u32,
+    across: &mut i64,
+    up: &mut i64,
+) -> i32
+    ensures { λ r. ⌜ Coded slackCode r (λ answer. SlackIn (now («record» .entry))
+        (eachWay (now (widths .entry)) (now (heights .entry))) (eachWay «outline_width» «outline_height»)
+        (eachWay (now (across .entry)) (now (up .entry))) answer (eachWay (now (across .exit)) (now (up .exit)))) ⌝ }
+{
+    match packing::slack(record, widths, heights, outline_width, outline_height) {
+        SlackAnswer::Slack(x, y) => {
+            *across = x;
+            *up = y;
+            0
+        }
+        SlackAnswer::Refused(refusal) => refused(refusal),
+    }
+}
+
+// Placing in: 0 for a placing that honours all relations, or the refusal's number negated.
+#[no_mangle]
+pub extern "C" fn nenturxo_placing_in(
+    record: &[u8],
+    widths: &[u16],
+    heights: &[u16],
+    x: &[u32],
+    y: &[u32],
+) -> i32
+    ensures { λ r. ⌜ r ≡ placingCode (placingAnswer (now («record» .entry)) (eachWay (now (widths .entry)) (now (heights .entry)))
+        (eachWay (now (x .entry)) (now (y .entry)))) ⌝ }
+{
+    match packing::placing_in(record, widths, heights, x, y) {
+        PlacingAnswer::Accepted => 0,
+        PlacingAnswer::Refused(refusal) => refused(refusal),
+    }
 }

@@ -11,7 +11,7 @@ use Rattle.finite.specs.Count.{onto}
 use Rattle.record.specs.Labels.{EachOnce}
 use Rattle.record.specs.Barred.{BarredFirst, BarredSecond, Barred}
 use Rattle.record.specs.Triple.{Earlier}
-use Rattle.record.specs.Way.{Way, up, down, other, Past, Beside, past-not-self, past-not-back, past-turn, past-turn-back, beside-past, beside-one, next-toward, Order, before, same, after, order}
+use Rattle.record.specs.Way.{Way, up, down, other, Past, Beside, past-trans, past-not-self, past-not-back, past-turn, past-turn-back, beside-past, beside-one, beside-tight, next-toward, Order, before, same, after, order}
 use Rattle.record.specs.Sides.{BesideSeen}
 use Rattle.record.specs.Runs.{Chained}
 
@@ -33,6 +33,14 @@ record Crossing (f : ℕ → ℕ) (n : ℕ) (turn : Way) (i j k l : ℕ) : Type 
   short : Past turn (f j) (f i)
   over : Past turn (f i) (f k)
   next : Beside (other turn) (f i) (f l)
+
+-- how far x is from z
+abbrev distance : ℕ → ℕ → ℕ
+distance x z = (x - z) + (z - x)
+
+nearer : (way : Way) {x y z : ℕ} → Beside way x y → Past way x z → distance y z < distance x z
+nearer up b p = omega arith
+nearer down b p = omega arith
 
 module _ (f : ℕ → ℕ) (n : ℕ) (each : EachOnce f n) where
   differ : (i j : ℕ) → 1 ≤ i → i < j → j ≤ n → f i ≢ f j
@@ -95,6 +103,26 @@ module _ (f : ℕ → ℕ) (n : ℕ) (each : EachOnce f n) where
                 over = subst (λ (w : ℕ). Past turn w (f (suc k))) (sym e) q;
                 next = subst (λ (w : ℕ). Beside (other turn) w (f l)) (sym e) (subst (Beside (other turn) x) (sym d) s);
               }))
+
+  -- so where a label seen lies between those of position k and of the next one, all labels from position k's up to it are seen
+  pub between-seen : ¬ Barred f n → (k : ℕ) → 1 ≤ k → suc k ≤ n → (way : Way) {x : ℕ} → Seen f k x → Past way x (f (suc k)) → (v : ℕ)
+      → Past way (f k) v → ¬ Past way x v → Seen f k v
+  between-seen free k a b way {x} seen short v p q = go (distance x v) x (omega arith) seen short q
+    where
+      go : (fuel x : ℕ) → distance x v ≤ fuel → Seen f k x → Past way x (f (suc k)) → ¬ Past way x v → Seen f k v
+      go zero x h seen short q = subst (Seen f k) (omega arith) seen
+      go (suc fuel) x h seen short q = back (order way x v) (go fuel)
+        where
+          back : Order way x v → ((y : ℕ) → distance y v ≤ fuel → Seen f k y → Past way y (f (suc k)) → ¬ Past way y v → Seen f k v) → Seen f k v
+          back (before r) rest = absurd (q r)
+          back (same e) rest = subst (Seen f k) e seen
+          back (after r) rest =
+              let (y, s, other-seen) = not-barred-next free k a b way x seen (past-trans p r) short in
+              rest y (omega (arith, nearer (other way) s (past-turn r))) other-seen (past-trans (past-turn-back way (beside-past s)) short)
+              (λ t. elim (beside-tight s (past-turn r)) [
+                | inl e ↦ past-not-self (subst (Past way y) (sym e) t)
+                | inr u ↦ past-not-back t (past-turn-back way u)
+              ])
 
   -- ---- and the other way round
   -- labels that lie before a at position j and past it at k, and are never a, cross it somewhere between

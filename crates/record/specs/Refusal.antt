@@ -1,7 +1,7 @@
 -- The sheet's table of refusals: cause and number. "A number that any request adds joins document 01's table."
 use Prim.Native.Nat.{ℕ}
 use Rattle.record.specs.declared.Refusal.{Refusal}
-use Rattle.record.specs.declared.Refusal.the-variants.{Count, RoomSize, Overlap, Uncovered, FourMeet, LabelOutside, LabelTwice, BarredPattern, NoKind, ShortBody, BytesAfter, MissingRun, SeveralRuns, SpareBit, ShortOutput, PositionOutside, SamePosition, TextForm, NotSlicing, NameTwice, LongBook, BeyondBook, OtherSummary}
+use Rattle.record.specs.declared.Refusal.the-variants.{Count, RoomSize, Overlap, Uncovered, FourMeet, LabelOutside, LabelTwice, BarredPattern, NoKind, ShortBody, BytesAfter, MissingRun, SeveralRuns, SpareBit, ShortOutput, PositionOutside, SamePosition, TextForm, NotSlicing, NameTwice, LongBook, BeyondBook, OtherSummary, OtherLength, ZeroSize, BrokenRelation}
 
 abbrev pub numberOf : Refusal → ℕ
 -- room or label list of 0 or over 255 entries
@@ -50,3 +50,9 @@ numberOf LongBook = 21
 numberOf BeyondBook = 22
 -- a summary that is not the book's (M-107)
 numberOf OtherSummary = 23
+-- a list whose length is not n (M-108)
+numberOf OtherLength = 24
+-- a size of 0 (M-108)
+numberOf ZeroSize = 25
+-- a placing that breaks a relation (M-108)
+numberOf BrokenRelation = 26

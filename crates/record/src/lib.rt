@@ -44,6 +44,9 @@ pub enum Refusal {
     LongBook,
     BeyondBook,
     OtherSummary,
+    OtherLength,
+    ZeroSize,
+    BrokenRelation,
 }
 
 impl Refusal {
@@ -75,6 +78,9 @@ impl Refusal {
             Refusal::LongBook => 21,
             Refusal::BeyondBook => 22,
             Refusal::OtherSummary => 23,
+            Refusal::OtherLength => 24,
+            Refusal::ZeroSize => 25,
+            Refusal::BrokenRelation => 26,
         }
     }
 }

@@ -4,15 +4,15 @@
 use mathlib.Core.Path.{_≡_, refl, sym, ap, subst, _∙_}
 use mathlib.Core.Logic.{inl, inr}
 use mathlib.Core.List.{List}
-use Prim.Native.Nat.{ℕ, zero, suc, _+_, _-_, _≤_, _<_}
+use Prim.Native.Nat.{ℕ, suc, _≤_, _<_}
 use native.Mathlib.Decide.{decLt}
 use native.Mathlib.Omega.{arith}
 use lib.ListN.{length}
 use Rattle.finite.specs.Decide.{eq-or-ne}
 use Rattle.record.specs.Labels.{labelAt, EachOnce}
 use Rattle.record.specs.Barred.{Barred, Baxter}
-use Rattle.record.specs.Way.{Way, up, down, other, Less, Past, Beside, past-trans, past-not-self, past-not-back, past-turn, past-turn-back, beside-past, beside-tight, Order, before, same, after, order}
-use Rattle.record.specs.NextTo.{Seen, NextTo, not-barred-next}
+use Rattle.record.specs.Way.{Way, up, down, Less, Past, past-trans, past-not-back, Order, before, same, after, order}
+use Rattle.record.specs.NextTo.{between-seen}
 use Rattle.drawing.specs.declared.Room.{Room}
 use Rattle.drawing.specs.Drawing.{drawingOf}
 use Rattle.drawing.specs.Nearest.{Nearest, last-nearest, first-nearest}
@@ -21,33 +21,13 @@ use Rattle.rooms.specs.Plan.{LeftStep, BelowStep, Left, Below}
 use Rattle.rooms.specs.PlanOf.{planOf}
 use Rattle.rooms.specs.GridFloorplan.{place→position, room-in-drawing}
 
--- how far x is from z
-abbrev distance : ℕ → ℕ → ℕ
-distance x z = (x - z) + (z - x)
-
-nearer : (way : Way) {x y z : ℕ} → Beside way x y → Past way x z → distance y z < distance x z
-nearer up b p = omega arith
-nearer down b p = omega arith
-
 module _ (f : ℕ → ℕ) (n : ℕ) (once : EachOnce f n) (not-barred : ¬ Barred f n) where
   -- no positions i < c, c + 1 < j have labels that go c, j, i, c + 1 one way: no 3-14-2 where that is up, no 2-41-3 where it is down
   no-3142-either-way : (way : Way) (i c j : ℕ) → 1 ≤ i → i < c → suc c < j → j ≤ n → Past way (f c) (f j) → Past way (f j) (f i)
       → Past way (f i) (f (suc c)) → ⊥
-  no-3142-either-way way i c j from ic cj to low middle high = not-all-seen (distance (f i) (f j)) (f i) (omega arith) (i, from, omega arith, refl) middle high
-    where
-      next : NextTo f c
-      next = not-barred-next f n once not-barred c (omega arith) (omega arith)
-
-      -- from a label seen between the two, the labels back to that of j would all be seen, but j comes later
-      not-all-seen : (fuel x : ℕ) → distance x (f j) ≤ fuel → Seen f c x → Past way (f j) x → Past way x (f (suc c)) → ⊥
-      not-all-seen zero x h seen p q = past-not-self (subst (Past way (f j)) (omega arith) p)
-      not-all-seen (suc fuel) x h seen p q =
-          let (y, b, (m, a, l, e)) = next way x seen (past-trans low p) q in
-          elim (beside-tight b (past-turn p)) [
-            | inl d ↦ omega (arith, once .once m j a (omega arith) (omega arith) to (e ∙ d))
-            | inr r ↦ not-all-seen fuel y (omega (arith, nearer (other way) b (past-turn p))) (m, a, l, e) (past-turn-back way r)
-                (past-trans (past-turn-back way (beside-past b)) q)
-          ]
+  no-3142-either-way way i c j from ic cj to low middle high =
+      let (m, a, l, e) = between-seen f n once not-barred c (omega arith) (omega arith) way (i, from, omega arith, refl) high (f j) low (past-not-back middle) in
+      omega (arith, once .once m j a (omega arith) (omega arith) to e)
 
   -- the room at i ends at z, where the room at j starts: then i is the earlier position, and its label comes first, going that way
   meet→earlier-and-past : (way : Way) (i j : ℕ) {z : ℕ} → 1 ≤ i → i ≤ n → 1 ≤ j → j ≤ n

@@ -1,10 +1,6 @@
 -- The outline is what its definition says: the smallest box round all rooms.
-use mathlib.Core.Path.{ap}
-use mathlib.Core.Logic.{inl, inr}
 use mathlib.Core.List.{List}
-use Prim.Native.Nat.{ℕ, zero, suc, _≤_, _<_}
-use native.Mathlib.Nat.{eq-or-lt-of-le, le-of-suc-le-suc, not-suc-le-zero}
-use native.Mathlib.Omega.{arith}
+use Prim.Native.Nat.{ℕ, _≤_, _<_}
 use lib.ListN.{length}
 use Rattle.drawing.specs.declared.Room.{Room}
 use Rattle.finite.specs.Extremes.{least-le, greatest-ge, least-largest, greatest-smallest}

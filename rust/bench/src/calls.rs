@@ -4,6 +4,7 @@ use crate::books::{book_with_places, FullBook};
 use crate::case::Case;
 use crate::outputs::{Drawing, Numbers};
 use crate::room_list::RoomList;
+use crate::sizes::{Corners, SizedPlan};
 use crate::timing::{one_turn, quickest, quickest_of_three, Times};
 use nenturxo::{RECORD_CAPACITY, TIDY_CAPACITY, TREE_CAPACITY};
 use reference::fast;
@@ -126,6 +127,29 @@ pub const BOOK_NEXT: Call = Call {
     },
 };
 
+pub const LOWEST_CORNERS: Call = Call {
+    name: "Lowest corners",
+    times: |cases, calls| lowest_corners(cases, calls, |case| &case.sized),
+    sheet: |cases| {
+        let mut corners = Corners::new();
+        one_turn(cases, |case| {
+            corners.by(reference::lowest_corners, &case.sized)
+        })
+    },
+};
+
+pub const SLACK: Call = Call {
+    name: "Slack",
+    times: |cases, calls| slack(cases, calls, |case| &case.sized),
+    sheet: |cases| one_turn(cases, |case| case.sized.slack_by(reference::slack)),
+};
+
+pub const PLACING_IN: Call = Call {
+    name: "Placing in",
+    times: |cases, calls| placing_in(cases, calls, |case| &case.sized),
+    sheet: |cases| one_turn(cases, |case| case.sized.placed_by(reference::placing_in)),
+};
+
 /// The times of so many calls of "Rooms in" on the lists of cases, accepted or
 /// refused.
 pub fn rooms_in<T>(cases: &[T], calls: usize, list_of: impl Fn(&T) -> &RoomList) -> Times {
@@ -207,4 +231,36 @@ pub fn book_add(books: &[FullBook], calls: usize) -> (f64, Times, f64) {
         |&at| books[at].add_by(fast::book_add_by_triples, &mut again[at]),
     );
     (sheet, times, by_triples)
+}
+
+/// The times of so many calls of "Lowest corners" on the sized plans of cases.
+pub fn lowest_corners<T>(cases: &[T], calls: usize, plan_of: impl Fn(&T) -> &SizedPlan) -> Times {
+    let [mut corners, mut same] = [Corners::new(), Corners::new()];
+    quickest(
+        cases,
+        calls,
+        |case| corners.by_library(plan_of(case)),
+        |case| same.by(fast::lowest_corners, plan_of(case)),
+    )
+}
+
+/// The times of so many calls of "Slack" on the sized plans of cases.
+pub fn slack<T>(cases: &[T], calls: usize, plan_of: impl Fn(&T) -> &SizedPlan) -> Times {
+    quickest(
+        cases,
+        calls,
+        |case| plan_of(case).slack_by_library(),
+        |case| plan_of(case).slack_by(fast::slack),
+    )
+}
+
+/// The times of so many calls of "Placing in" on the placings of cases, accepted
+/// or refused.
+pub fn placing_in<T>(cases: &[T], calls: usize, plan_of: impl Fn(&T) -> &SizedPlan) -> Times {
+    quickest(
+        cases,
+        calls,
+        |case| plan_of(case).placed_by_library(),
+        |case| plan_of(case).placed_by(fast::placing_in),
+    )
 }

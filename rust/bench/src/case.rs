@@ -2,6 +2,7 @@
 
 use crate::outputs::Drawing;
 use crate::room_list::RoomList;
+use crate::sizes::SizedPlan;
 use crate::{lists, shapes, texts};
 use compare::{of_library, Floorplan};
 use reference::cases::names::random_names;
@@ -28,6 +29,8 @@ pub struct Case {
     tree: Vec<u8>,
     /// As many labels in a random order with a barred pattern, if there are 4.
     pub barred: Vec<u8>,
+    /// The plan with random sizes.
+    pub sized: SizedPlan,
     /// Two positions to ask for.
     pub first: u8,
     pub second: u8,
@@ -43,7 +46,7 @@ impl Case {
         plan.stretch(random);
         plan.shuffle(random);
         // Copies of the generator, so that the plans are the same as without
-        // names, texts, trees and patterns.
+        // names, texts, trees, patterns and sizes.
         plan.put_names(&random_names(n, &mut random.clone()));
         let slicing = SlicingPlan::random(n, &mut random.clone());
         Self {
@@ -51,6 +54,7 @@ impl Case {
             slicing: slicing.record(),
             tree: slicing.tree.bytes(),
             barred: lists::random_barred(n, &mut random.clone()),
+            sized: SizedPlan::random(&walked, &mut random.clone()),
             record: walked.record(),
             labels: walked.labels,
             list: RoomList::new(plan.rooms()),
@@ -70,6 +74,7 @@ impl Case {
         self.check_tidy();
         self.check_tree();
         self.check_pattern();
+        self.sized.check();
     }
 
     fn check_labels_in(&self) {

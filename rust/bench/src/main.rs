@@ -12,13 +12,15 @@ mod names;
 mod outputs;
 mod room_list;
 mod shapes;
+mod sizes;
 mod texts;
 mod timing;
 
 use books::BOOKS;
 use calls::{
-    book_add, book_next, pattern, rooms_in, tidy, tree, Call, BOOK_NEXT, LABELS_IN, PATTERN,
-    QUESTION, RECORD_IN, ROOMS_IN, TIDY, TREE,
+    book_add, book_next, lowest_corners, pattern, placing_in, rooms_in, slack, tidy, tree, Call,
+    BOOK_NEXT, LABELS_IN, LOWEST_CORNERS, PATTERN, PLACING_IN, QUESTION, RECORD_IN, ROOMS_IN,
+    SLACK, TIDY, TREE,
 };
 use case::Case;
 use lists::LISTS;
@@ -27,12 +29,23 @@ use reference::cases::Random;
 use reference::Refusal;
 use room_list::RoomList;
 use shapes::{Shape, SHAPES};
+use sizes::{PLACINGS, SIZED_PLANS};
 use texts::{Kind, BROKEN_AT_THE_END, MANY_HANDS, TIDY_FORM, TOO_MANY_NUMBERS};
-use timing::{calls_in_a_round, ROUNDS};
+use timing::{calls_in_a_round, Times, ROUNDS};
 
 /// The calls.
-const EVERY_CALL: [Call; 8] = [
-    LABELS_IN, RECORD_IN, ROOMS_IN, QUESTION, TIDY, TREE, PATTERN, BOOK_NEXT,
+const EVERY_CALL: [Call; 11] = [
+    LABELS_IN,
+    RECORD_IN,
+    ROOMS_IN,
+    QUESTION,
+    TIDY,
+    TREE,
+    PATTERN,
+    BOOK_NEXT,
+    LOWEST_CORNERS,
+    SLACK,
+    PLACING_IN,
 ];
 
 /// Counts of rooms for the time of a call.
@@ -50,6 +63,9 @@ const NUMBERS_OF_LONG_TEXTS: usize = 1300;
 /// The count of labels for lists with and without a pattern.
 const LABELS_OF_LISTS: usize = 255;
 
+/// The count of rooms for plans with sizes and for placings.
+const ROOMS_WITH_SIZES: u8 = 255;
+
 /// Different books of each kind.
 const FULL_BOOKS: usize = 4;
 
@@ -63,13 +79,7 @@ const ROOMS_OF_A_SEARCH: usize = 40;
 fn main() {
     println!("{PLANS} random plans for each n, quickest of {ROUNDS} rounds");
 
-    print_head("nanoseconds per call");
-    for call in EVERY_CALL {
-        for n in CALLS {
-            let cases = cases(n);
-            print_row(call, &cases, calls_in_a_round(&cases, n), 1.0);
-        }
-    }
+    print_calls("nanoseconds per call");
 
     print_places("nanoseconds per call of Book next, by the form");
 
@@ -85,21 +95,15 @@ fn main() {
 
     print_lists("nanoseconds per call of Pattern, by the list");
 
-    print_head("nanoseconds per room");
-    for call in [LABELS_IN, RECORD_IN, ROOMS_IN] {
-        for n in ROOMS {
-            let cases = cases(n);
-            print_row(call, &cases, calls_in_a_round(&cases, n), 1.0 / n as f64);
-        }
-    }
+    print_sized_plans("nanoseconds per call with sizes, by the plan");
 
-    print_head(&format!(
+    print_placings("nanoseconds per call of Placing in, by the placing");
+
+    print_rooms("nanoseconds per room");
+
+    print_search(&format!(
         "milliseconds for {RECORDS} records of a {ROOMS_OF_A_SEARCH}-room plan"
     ));
-    let cases = cases(ROOMS_OF_A_SEARCH);
-    for call in [LABELS_IN, RECORD_IN, ROOMS_IN] {
-        print_row(call, &cases, RECORDS, RECORDS as f64 / 1e6);
-    }
 }
 
 /// Random plans of `n` rooms. Both versions of each call accept them.
@@ -123,7 +127,7 @@ fn refused_lists(refusal: Refusal, n: usize) -> Vec<RoomList> {
 
 fn print_head(title: &str) {
     println!("\n{title}");
-    print!("{:<9} {:>5} {:>10}", "", "n", "library");
+    print!("{:<14} {:>5} {:>10}", "", "n", "library");
     print!(" {:>12} {:>6}", "sheet", "ratio");
     println!(" {:>10} {:>6}", "tuned", "ratio");
 }
@@ -135,9 +139,40 @@ fn print_row(call: Call, cases: &[Case], calls: usize, worth: f64) {
     let sheet = (call.sheet)(cases);
     let times = (call.times)(cases, calls);
     let (name, n) = (call.name, cases[0].labels.len());
-    print!("{name:<9} {n:>5} {:>10.2}", times.library * worth);
+    print!("{name:<14} {n:>5} {:>10.2}", times.library * worth);
     print!(" {:>12.2} {:>6.3}", sheet * worth, times.library / sheet);
     println!(" {:>10.2} {:>6.2}", times.tuned * worth, times.ratio());
+}
+
+/// Prints the times of each call.
+fn print_calls(title: &str) {
+    print_head(title);
+    for call in EVERY_CALL {
+        for n in CALLS {
+            let cases = cases(n);
+            print_row(call, &cases, calls_in_a_round(&cases, n), 1.0);
+        }
+    }
+}
+
+/// Prints the times per room of the calls that take or give a whole plan.
+fn print_rooms(title: &str) {
+    print_head(title);
+    for call in [LABELS_IN, RECORD_IN, ROOMS_IN] {
+        for n in ROOMS {
+            let cases = cases(n);
+            print_row(call, &cases, calls_in_a_round(&cases, n), 1.0 / n as f64);
+        }
+    }
+}
+
+/// Prints the times of these calls for what a search writes.
+fn print_search(title: &str) {
+    print_head(title);
+    let cases = cases(ROOMS_OF_A_SEARCH);
+    for call in [LABELS_IN, RECORD_IN, ROOMS_IN] {
+        print_row(call, &cases, RECORDS, RECORDS as f64 / 1e6);
+    }
 }
 
 /// Prints the times for places in books, and the ratios of the library to the
@@ -275,4 +310,44 @@ fn print_lists(title: &str) {
         print!("{:<14} {n:>4} {:>10.2}", kind.name, times.library);
         println!(" {:>10.2} {:>6.2}", times.tuned, times.ratio());
     }
+}
+
+/// Prints the times of each call with sizes, for plans of each kind.
+fn print_sized_plans(title: &str) {
+    print_sizes_head(title);
+    let n = ROOMS_WITH_SIZES;
+    for kind in SIZED_PLANS {
+        let plans = kind.plans(PLANS, n);
+        let calls = calls_in_a_round(&plans, n.into());
+        for (call, times) in [
+            (LOWEST_CORNERS, lowest_corners(&plans, calls, |plan| plan)),
+            (SLACK, slack(&plans, calls, |plan| plan)),
+            (PLACING_IN, placing_in(&plans, calls, |plan| plan)),
+        ] {
+            print_sizes_row(&format!("{}, {}", call.name, kind.name), &times);
+        }
+    }
+}
+
+/// Prints the times for placings of each kind.
+fn print_placings(title: &str) {
+    print_sizes_head(title);
+    let n = ROOMS_WITH_SIZES;
+    for kind in PLACINGS {
+        let plans = kind.plans(PLANS, n);
+        let times = placing_in(&plans, calls_in_a_round(&plans, n.into()), |plan| plan);
+        print_sizes_row(kind.name, &times);
+    }
+}
+
+fn print_sizes_head(title: &str) {
+    println!("\n{title}");
+    print!("{:<26} {:>4} {:>10}", "", "n", "library");
+    println!(" {:>10} {:>6}", "tuned", "ratio");
+}
+
+/// Prints times, and the ratio of the library to the tuned Rust version.
+fn print_sizes_row(name: &str, times: &Times) {
+    print!("{name:<26} {ROOMS_WITH_SIZES:>4} {:>10.2}", times.library);
+    println!(" {:>10.2} {:>6.2}", times.tuned, times.ratio());
 }

@@ -3,6 +3,7 @@
 
 use crate::given::GivenRooms;
 use reference::cases::names::some_names;
+use reference::cases::sizes::{Placing, SizedRecord};
 use reference::cases::Random;
 use reference::{drawing, record_of, triples, Numbering, Room};
 use std::collections::BTreeSet;
@@ -207,6 +208,27 @@ impl Floorplan {
             positions: self.0.iter().map(|placed| placed.position).collect(),
             names: by_position.iter().map(|placed| placed.room.name).collect(),
         }
+    }
+
+    /// The record with the widths and heights of the rooms, and where they stand,
+    /// each by position.
+    ///
+    /// # Panics
+    ///
+    /// As [`Self::numbering`].
+    #[must_use]
+    pub fn sized(&self) -> (SizedRecord, Placing) {
+        let mut by_position = self.0.clone();
+        by_position.sort_by_key(|placed| placed.position);
+        let rooms = || by_position.iter().map(|placed| placed.room);
+        let widths: Vec<u16> = rooms().map(|room| room.right - room.left).collect();
+        let heights: Vec<u16> = rooms().map(|room| room.top - room.bottom).collect();
+        let placing = Placing {
+            x: rooms().map(|room| u32::from(room.left)).collect(),
+            y: rooms().map(|room| u32::from(room.bottom)).collect(),
+        };
+        let record = self.numbering().record;
+        (SizedRecord::new(record, widths, heights), placing)
     }
 
     /// The room list with its answer, which is known.

@@ -64,6 +64,16 @@ impl Entry for u16 {
     }
 }
 
+impl Entry for u32 {
+    fn of_bytes(fill: u8) -> Self {
+        Self::from_ne_bytes([fill; 4])
+    }
+
+    fn shown(self) -> String {
+        format!("{self:08X}")
+    }
+}
+
 impl Entry for reference::Room {
     fn of_bytes(fill: u8) -> Self {
         let number = u16::of_bytes(fill);

@@ -1,4 +1,4 @@
-//! Rooms, relations, patterns and summaries in the library's own types.
+//! Rooms, relations, patterns, summaries and slacks in the library's own types.
 
 use reference::{Condition, Pattern, Relation, Room, Side, Summary};
 
@@ -59,4 +59,10 @@ pub fn summary(summary: Summary) -> nenturxo::Summary {
         rises: summary.rises,
         falls: summary.falls,
     }
+}
+
+/// A slack, across and up, as the library names it.
+#[must_use]
+pub fn slack((across, up): (i64, i64)) -> nenturxo::Slack {
+    nenturxo::Slack { across, up }
 }

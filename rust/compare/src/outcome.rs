@@ -57,6 +57,11 @@ impl<O> Outcome<O> {
         let lent = Input::new(input, around);
         let returned = call(lent.slice(), &mut outputs);
         lent.expect_still(input);
+        Self::new(returned, outputs)
+    }
+
+    /// What a call returned and left, whose inputs were lent elsewhere.
+    pub fn new(returned: Result<usize, u32>, outputs: O) -> Self {
         Self { returned, outputs }
     }
 

@@ -19,6 +19,7 @@ mod pattern;
 mod refusal;
 mod relation;
 mod room;
+mod slack;
 #[allow(unsafe_code)]
 mod sys;
 
@@ -27,6 +28,7 @@ pub use pattern::{Condition, Pattern};
 pub use refusal::Refusal;
 pub use relation::{Relation, Side};
 pub use room::Room;
+pub use slack::Slack;
 
 /// The length of the longest record, that of 255 rooms.
 pub const RECORD_CAPACITY: usize = 97;
@@ -448,6 +450,148 @@ pub fn book_add(
     summary: &mut Summary,
 ) -> Result<usize, BookError> {
     book_result(sys::book_add(book, used, record, summary))
+}
+
+/// Lowest corners: writes the lower left corners of the rooms of a plan, each
+/// room as low and as far to the left as it can be, by position to the fronts of
+/// `x` and `y`, and gives the number of rooms. The rest of each slice keeps its
+/// entries.
+///
+/// `widths` and `heights` have the size of the room at each position, 1 to
+/// 65,535 both ways, and no other entry.
+///
+/// A room starts where the furthest room left of it ends, or at 0, and likewise
+/// upward, where the furthest room below it ends. No placing from 0 up that
+/// honours all left and below relations puts any corner lower, and this is the
+/// only one of which that holds. No two rooms share a unit square in it, and
+/// every room ends below 2²⁴ both ways.
+///
+/// ```
+/// use nenturxo::{lowest_corners, placing_in, Refusal};
+///
+/// // The labels 4 1 3 5 2.
+/// let record = [0x05, 0x31, 0x70];
+/// let (widths, heights) = ([3, 1, 4, 1, 5], [9, 2, 6, 5, 3]);
+/// let [mut x, mut y] = [[77; 6]; 2];
+/// assert_eq!(lowest_corners(&record, &widths, &heights, &mut x, &mut y)?, 5);
+/// assert_eq!(x, [0, 0, 1, 5, 1, 77]);
+/// assert_eq!(y, [0, 9, 9, 0, 15, 77]);
+///
+/// // It is a placing, and no room can start lower.
+/// placing_in(&record, &widths, &heights, &x[..5], &y[..5])?;
+/// y[4] -= 1;
+/// let lower = placing_in(&record, &widths, &heights, &x[..5], &y[..5]);
+/// assert_eq!(lower, Err(Refusal::RELATION_BROKEN));
+///
+/// let answer = lowest_corners(&record, &widths, &heights[1..], &mut x, &mut y);
+/// assert_eq!(answer, Err(Refusal::LENGTH_DIFFERS));
+/// # Ok::<(), Refusal>(())
+/// ```
+///
+/// # Errors
+///
+/// The first of these that holds, and `x` and `y` are as they were:
+/// [9](Refusal::NO_KIND), [10](Refusal::BODY_SHORT),
+/// [11](Refusal::BYTES_AFTER), [14](Refusal::SPARE_BIT),
+/// [12](Refusal::RUN_MISSING), [13](Refusal::RUNS_LEFT),
+/// [24](Refusal::LENGTH_DIFFERS), [25](Refusal::ZERO_SIZE),
+/// [15](Refusal::SLICE_SHORT).
+pub fn lowest_corners(
+    record: &[u8],
+    widths: &[u16],
+    heights: &[u16],
+    x: &mut [u32],
+    y: &mut [u32],
+) -> Result<usize, Refusal> {
+    result(sys::lowest_corners(record, widths, heights, x, y))
+}
+
+/// Slack: gives how much wider and higher an outline is than a plan with rooms
+/// of these sizes needs.
+///
+/// `widths` and `heights` have the size of the room at each position, 1 to
+/// 65,535 both ways, and no other entry.
+///
+/// What is needed each way is the furthest end of any room at the
+/// [lowest corners](lowest_corners). The slack may be below 0. It is 0 or more
+/// both ways exactly if some placing that honours the relations fits the
+/// outline.
+///
+/// ```
+/// use nenturxo::{slack, Refusal, Slack};
+///
+/// // The labels 4 1 3 5 2.
+/// let record = [0x05, 0x31, 0x70];
+/// let (widths, heights) = ([3, 1, 4, 1, 5], [9, 2, 6, 5, 3]);
+/// // The rooms need 6 across and 18 up.
+/// let left = slack(&record, &widths, &heights, 10, 10)?;
+/// assert_eq!(left, Slack { across: 4, up: -8 });
+///
+/// let answer = slack(&record, &[3, 1, 0, 1, 5], &heights, 10, 10);
+/// assert_eq!(answer, Err(Refusal::ZERO_SIZE));
+/// # Ok::<(), Refusal>(())
+/// ```
+///
+/// # Errors
+///
+/// The first of these that holds: [9](Refusal::NO_KIND),
+/// [10](Refusal::BODY_SHORT), [11](Refusal::BYTES_AFTER),
+/// [14](Refusal::SPARE_BIT), [12](Refusal::RUN_MISSING),
+/// [13](Refusal::RUNS_LEFT), [24](Refusal::LENGTH_DIFFERS),
+/// [25](Refusal::ZERO_SIZE).
+pub fn slack(
+    record: &[u8],
+    widths: &[u16],
+    heights: &[u16],
+    outline_width: u32,
+    outline_height: u32,
+) -> Result<Slack, Refusal> {
+    let mut slack = Slack { across: 0, up: 0 };
+    let outline = [outline_width, outline_height];
+    let code = sys::slack(record, widths, heights, outline, &mut slack);
+    result(code).map(|_| slack)
+}
+
+/// Placing in: accepts a placing of the rooms of a plan, or refuses it with
+/// [26](Refusal::RELATION_BROKEN). Nothing is written.
+///
+/// `widths` and `heights` have the size of the room at each position, 1 to
+/// 65,535 both ways, and `x` and `y` its lower left corner; none of the four has
+/// another entry.
+///
+/// A placing is accepted exactly if each room ends no later than every room
+/// right of it begins across, and no later than every room above it begins
+/// upward. Where a room ends is a whole-number sum, which may be 2³² or more.
+///
+/// ```
+/// use nenturxo::{placing_in, Refusal};
+///
+/// // Two rooms side by side, 3 and 4 wide.
+/// let at = |x: [u32; 2]| placing_in(&[0x02, 0x40], &[3, 4], &[1, 1], &x, &[0, 50]);
+/// assert_eq!(at([0, 3]), Ok(()));
+/// assert_eq!(at([10, 90]), Ok(()));
+/// assert_eq!(at([0, 2]), Err(Refusal::RELATION_BROKEN));
+/// // The second one stays left of no room, and may end beyond 2³².
+/// assert_eq!(at([0, u32::MAX]), Ok(()));
+/// // The first one would end at 2³² + 2.
+/// assert_eq!(at([u32::MAX, 2]), Err(Refusal::RELATION_BROKEN));
+/// ```
+///
+/// # Errors
+///
+/// The first of these that holds: [9](Refusal::NO_KIND),
+/// [10](Refusal::BODY_SHORT), [11](Refusal::BYTES_AFTER),
+/// [14](Refusal::SPARE_BIT), [12](Refusal::RUN_MISSING),
+/// [13](Refusal::RUNS_LEFT), [24](Refusal::LENGTH_DIFFERS),
+/// [25](Refusal::ZERO_SIZE), [26](Refusal::RELATION_BROKEN).
+pub fn placing_in(
+    record: &[u8],
+    widths: &[u16],
+    heights: &[u16],
+    x: &[u32],
+    y: &[u32],
+) -> Result<(), Refusal> {
+    result(sys::placing_in(record, widths, heights, x, y)).map(|_| ())
 }
 
 /// The result of a call on a book that a code stands for.

@@ -66,6 +66,12 @@ impl Refusal {
     pub const PLACE_OUTSIDE: Self = Self(22);
     /// 23: summary is not the book's
     pub const SUMMARY_DIFFERS: Self = Self(23);
+    /// 24: a list whose length is not n
+    pub const LENGTH_DIFFERS: Self = Self(24);
+    /// 25: a size of 0
+    pub const ZERO_SIZE: Self = Self(25);
+    /// 26: a placing that breaks a relation
+    pub const RELATION_BROKEN: Self = Self(26);
 
     /// The refusal that a code below 0 stands for, be it long or not. A
     /// refusal's number is small.
@@ -113,6 +119,9 @@ impl Refusal {
                 "used length beyond the lent slice or a place beyond the used length"
             }
             Self::SUMMARY_DIFFERS => "summary is not the book's",
+            Self::LENGTH_DIFFERS => "a list whose length is not n",
+            Self::ZERO_SIZE => "a size of 0",
+            Self::RELATION_BROKEN => "a placing that breaks a relation",
             // The library has no other numbers.
             _ => "not in the table",
         }

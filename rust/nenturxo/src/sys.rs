@@ -1,6 +1,6 @@
 //! The C interface, and the only unsafe code: one safe function for each call.
 
-use crate::{Room, Summary};
+use crate::{Room, Slack, Summary};
 
 /// What a call gives back: at least 0 a result, below 0 a refusal's number
 /// negated.
@@ -62,6 +62,45 @@ mod c {
             rooms: *mut u32,
             rises: *mut u32,
             falls: *mut u32,
+        ) -> Code;
+
+        pub fn nenturxo_lowest_corners(
+            record: *const u8,
+            n: usize,
+            widths: *const u16,
+            widths_length: usize,
+            heights: *const u16,
+            heights_length: usize,
+            x: *mut u32,
+            x_capacity: usize,
+            y: *mut u32,
+            y_capacity: usize,
+        ) -> Code;
+
+        pub fn nenturxo_slack(
+            record: *const u8,
+            n: usize,
+            widths: *const u16,
+            widths_length: usize,
+            heights: *const u16,
+            heights_length: usize,
+            outline_width: u32,
+            outline_height: u32,
+            across: *mut i64,
+            up: *mut i64,
+        ) -> Code;
+
+        pub fn nenturxo_placing_in(
+            record: *const u8,
+            n: usize,
+            widths: *const u16,
+            widths_length: usize,
+            heights: *const u16,
+            heights_length: usize,
+            x: *const u32,
+            x_length: usize,
+            y: *const u32,
+            y_length: usize,
         ) -> Code;
     }
 }
@@ -189,6 +228,82 @@ pub fn book_add(book: &mut [u8], used: usize, record: &[u8], summary: &mut Summa
             rooms,
             rises,
             falls,
+        )
+    }
+}
+
+/// `nenturxo_lowest_corners` on five slices.
+pub fn lowest_corners(
+    record: &[u8],
+    widths: &[u16],
+    heights: &[u16],
+    x: &mut [u32],
+    y: &mut [u32],
+) -> Code {
+    // SAFETY: every pointer is good for as many elements as the length beside
+    // it says, the last two for writing too, and as the last two slices are
+    // borrowed mutably neither overlaps another one. The call keeps no pointer.
+    unsafe {
+        c::nenturxo_lowest_corners(
+            record.as_ptr(),
+            record.len(),
+            widths.as_ptr(),
+            widths.len(),
+            heights.as_ptr(),
+            heights.len(),
+            x.as_mut_ptr(),
+            x.len(),
+            y.as_mut_ptr(),
+            y.len(),
+        )
+    }
+}
+
+/// `nenturxo_slack` on three slices and the two numbers of an outline.
+pub fn slack(
+    record: &[u8],
+    widths: &[u16],
+    heights: &[u16],
+    [outline_width, outline_height]: [u32; 2],
+    slack: &mut Slack,
+) -> Code {
+    let Slack { across, up } = slack;
+    // SAFETY: the slices' pointers are good for as many elements as the lengths
+    // beside them say, and the last two for one number each. As these two are
+    // borrowed mutably, and each is a field of its own, neither overlaps
+    // anything else. The call keeps no pointer.
+    unsafe {
+        c::nenturxo_slack(
+            record.as_ptr(),
+            record.len(),
+            widths.as_ptr(),
+            widths.len(),
+            heights.as_ptr(),
+            heights.len(),
+            outline_width,
+            outline_height,
+            across,
+            up,
+        )
+    }
+}
+
+/// `nenturxo_placing_in` on five slices.
+pub fn placing_in(record: &[u8], widths: &[u16], heights: &[u16], x: &[u32], y: &[u32]) -> Code {
+    // SAFETY: every pointer is good for as many elements as the length beside
+    // it says. The call keeps no pointer.
+    unsafe {
+        c::nenturxo_placing_in(
+            record.as_ptr(),
+            record.len(),
+            widths.as_ptr(),
+            widths.len(),
+            heights.as_ptr(),
+            heights.len(),
+            x.as_ptr(),
+            x.len(),
+            y.as_ptr(),
+            y.len(),
         )
     }
 }

@@ -8,6 +8,7 @@ pub mod barred;
 pub mod book;
 pub mod names;
 mod random;
+pub mod sizes;
 pub mod slicing;
 mod small;
 pub mod text;

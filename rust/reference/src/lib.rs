@@ -2,7 +2,7 @@
 //!
 //! This is the separately written version that the proved library is held to.
 //! It is meant to be believed by reading: each function is one sentence of
-//! the sheet, or of the requests M-100 to M-107, and says which. What is fast
+//! the sheet, or of the requests M-100 to M-108, and says which. What is fast
 //! lives apart, in [`fast`], and is itself held to the definitions. What tests
 //! are made of is in [`cases`].
 //!
@@ -35,6 +35,7 @@ mod refusal;
 mod relation;
 mod rooms;
 mod runs;
+mod sizes;
 mod slicing;
 mod text;
 mod tidy;
@@ -58,6 +59,7 @@ pub use rooms::{
     equivalent, numbering_of, rooms_in, segments, Chains, Contacts, Numbered, Numbering, Segment,
 };
 pub use runs::{labels_of, Runs, TRIPLES};
+pub use sizes::{lowest_corners, placing_in, slack, SizedPlan};
 pub use slicing::is_slicing;
 pub use text::{numbers_in, tidy_form};
 pub use tidy::tidy;

@@ -2,7 +2,7 @@
 
 use crate::record::triples_in;
 use crate::runs::labels_of;
-use crate::{drawing, Refusal, Room};
+use crate::{drawing, Refusal, Room, Side};
 
 /// What an accepted record stands for.
 #[derive(Clone, Debug, PartialEq, Eq)]
@@ -52,6 +52,27 @@ impl Plan {
         labels.copy_from_slice(&self.labels);
         rooms.copy_from_slice(&self.rooms);
         Ok(n)
+    }
+
+    /// The side of the second room on which the first one is: for positions
+    /// i < j, room i is left of j if its label is smaller, else below j.
+    ///
+    /// Both are named by their places in lists by position, from 0 on.
+    ///
+    /// # Panics
+    ///
+    /// If there is no such place, or both are the same.
+    #[must_use]
+    pub fn side(&self, first: usize, second: usize) -> Side {
+        assert_ne!(first, second, "a room has no relation to itself");
+        if first > second {
+            return self.side(second, first).opposite();
+        }
+        if self.labels[first] < self.labels[second] {
+            Side::Left
+        } else {
+            Side::Below
+        }
     }
 }
 

@@ -1,7 +1,7 @@
 //! The question of the sheet: how two positions of a record stand to each
 //! other.
 
-use crate::{plan_of, Contacts, Plan, Refusal, Relation, Side};
+use crate::{plan_of, Contacts, Plan, Refusal, Relation};
 
 /// The relation of the first position to the second in a record, and whether
 /// the two touch.
@@ -62,27 +62,9 @@ impl Questions {
     /// The relation of one position to another one, which is direct if one
     /// segment holds the facing edges of their rooms.
     fn relation(&self, first: u8, second: u8) -> Relation {
-        let side = self.side(first, second);
+        let side = self.plan.side(place(first), place(second));
         let direct = self.contacts.directly(side, place(first), place(second));
         Relation { side, direct }
-    }
-
-    /// The side of the second position on which the first one is: for
-    /// positions i < j, room i is left of j if its label is smaller, else
-    /// below j.
-    fn side(&self, first: u8, second: u8) -> Side {
-        let label = |position: u8| self.plan.labels[place(position)];
-        if first < second {
-            if label(first) < label(second) {
-                Side::Left
-            } else {
-                Side::Below
-            }
-        } else if label(second) < label(first) {
-            Side::Right
-        } else {
-            Side::Above
-        }
     }
 
     /// Whether the rooms of two positions touch.

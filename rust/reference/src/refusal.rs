@@ -1,5 +1,5 @@
-//! The sheet's table of refusals, with the numbers that M-100, M-103, M-106 and
-//! M-107 add.
+//! The sheet's table of refusals, with the numbers that M-100, M-103, M-106,
+//! M-107 and M-108 add.
 
 use std::fmt;
 
@@ -53,11 +53,17 @@ pub enum Refusal {
     PlaceOutside = 22,
     /// 23: summary is not the book's
     SummaryDiffers = 23,
+    /// 24: a list whose length is not n
+    LengthDiffers = 24,
+    /// 25: a size of 0
+    ZeroSize = 25,
+    /// 26: a placing that breaks a relation
+    RelationBroken = 26,
 }
 
 impl Refusal {
     /// Every refusal, in the order of the table.
-    pub const ALL: [Self; 23] = [
+    pub const ALL: [Self; 26] = [
         Self::ListLength,
         Self::EmptyRoom,
         Self::SharedSquare,
@@ -81,6 +87,9 @@ impl Refusal {
         Self::BookLength,
         Self::PlaceOutside,
         Self::SummaryDiffers,
+        Self::LengthDiffers,
+        Self::ZeroSize,
+        Self::RelationBroken,
     ];
 
     /// What a room list is refused with, in the sheet's order with that of
@@ -173,6 +182,32 @@ impl Refusal {
         Self::SummaryDiffers,
     ];
 
+    /// What a record and the sizes of its rooms are refused with, in the
+    /// request's order, before 15 where corners are written.
+    pub const OF_SIZES: [Self; 8] = [
+        Self::NoKind,
+        Self::BodyShort,
+        Self::BytesAfter,
+        Self::SpareBit,
+        Self::RunMissing,
+        Self::RunsLeft,
+        Self::LengthDiffers,
+        Self::ZeroSize,
+    ];
+
+    /// What a placing is refused with, in the request's order.
+    pub const OF_PLACINGS: [Self; 9] = [
+        Self::NoKind,
+        Self::BodyShort,
+        Self::BytesAfter,
+        Self::SpareBit,
+        Self::RunMissing,
+        Self::RunsLeft,
+        Self::LengthDiffers,
+        Self::ZeroSize,
+        Self::RelationBroken,
+    ];
+
     /// The refusal's number in the table.
     #[must_use]
     pub const fn number(self) -> u8 {
@@ -208,6 +243,9 @@ impl Refusal {
                 "used length beyond the lent slice or a place beyond the used length"
             }
             Self::SummaryDiffers => "summary is not the book's",
+            Self::LengthDiffers => "a list whose length is not n",
+            Self::ZeroSize => "a size of 0",
+            Self::RelationBroken => "a placing that breaks a relation",
         }
     }
 }
@@ -225,9 +263,9 @@ mod tests {
     use super::Refusal;
 
     #[test]
-    fn numbers_are_1_to_23_in_the_order_of_the_table() {
+    fn numbers_are_1_to_26_in_the_order_of_the_table() {
         let numbers: Vec<u8> = Refusal::ALL.iter().map(|r| r.number()).collect();
-        assert_eq!(numbers, (1..=23).collect::<Vec<u8>>());
+        assert_eq!(numbers, (1..=26).collect::<Vec<u8>>());
     }
 
     #[test]
@@ -243,5 +281,9 @@ mod tests {
         assert_eq!(numbers(&Refusal::IN_BOOKS), [9, 10, 14, 12, 13]);
         let of_books = [22, 21, 9, 10, 14, 12, 13, 23];
         assert_eq!(numbers(&Refusal::OF_BOOKS), of_books);
+        let of_sizes = [9, 10, 11, 14, 12, 13, 24, 25];
+        assert_eq!(numbers(&Refusal::OF_SIZES), of_sizes);
+        let of_placings = [9, 10, 11, 14, 12, 13, 24, 25, 26];
+        assert_eq!(numbers(&Refusal::OF_PLACINGS), of_placings);
     }
 }

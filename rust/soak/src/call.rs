@@ -1,6 +1,6 @@
 //! The calls.
 
-use crate::{books, labels, patterns, records, rooms, texts};
+use crate::{books, labels, patterns, records, rooms, sizes, texts};
 use compare::Tally;
 use reference::cases::Random;
 use reference::Refusal;
@@ -29,7 +29,7 @@ const OF_POSITIONS: &[Refusal] = &[Refusal::PositionOutside, Refusal::PositionsE
 const OF_ADDING: &[Refusal] = &[Refusal::BytesAfter, Refusal::SliceShort];
 
 /// The calls of the library.
-pub const CALLS: [Call; 9] = [
+pub const CALLS: [Call; 12] = [
     Call {
         name: "Labels in",
         compare_some: labels::compare_some,
@@ -74,6 +74,21 @@ pub const CALLS: [Call; 9] = [
         name: "Book add",
         compare_some: books::add_some,
         refusals: [&Refusal::OF_BOOKS, OF_ADDING],
+    },
+    Call {
+        name: "Lowest corners",
+        compare_some: sizes::put_some_low,
+        refusals: [&Refusal::OF_SIZES, OF_SLICES],
+    },
+    Call {
+        name: "Slack",
+        compare_some: sizes::outline_some,
+        refusals: [&Refusal::OF_SIZES, &[]],
+    },
+    Call {
+        name: "Placing in",
+        compare_some: sizes::place_some,
+        refusals: [&Refusal::OF_PLACINGS, &[]],
     },
 ];
 

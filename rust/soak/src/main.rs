@@ -17,6 +17,7 @@ mod patterns;
 mod records;
 mod rooms;
 mod size;
+mod sizes;
 mod texts;
 
 use call::{Call, BATCH, CALLS};
@@ -27,7 +28,7 @@ use std::sync::atomic::{AtomicUsize, Ordering};
 use std::{env, panic, process, thread};
 
 /// Batches, unless the argument says otherwise.
-const BATCHES: usize = 9_000;
+const BATCHES: usize = 12_000;
 
 const THREADS: usize = 2;
 

@@ -20,8 +20,8 @@ use crate::{BookRefusal, Refusal, Summary, BOOK_CAPACITY};
 use counting::{Count, Counted};
 use refusal::refusal_at_the_front;
 use steps::ByFours;
-use walk::{falls, WINDOW};
-pub(super) use walk::{End, Walk};
+use walk::falls;
+pub(super) use walk::{End, Walk, WINDOW};
 
 /// Book next, with the answers of [`crate::book_next`].
 ///
@@ -96,10 +96,7 @@ pub(super) fn add<W: Walk>(
     if *summary != count.summary() {
         return Err(Refusal::SummaryDiffers.into());
     }
-    let (n, _) = body_of(record)?;
-    let Some(falls) = falls::<W>(n as u8, &padded(record)) else {
-        return Err(refusal_at_the_front(record).into());
-    };
+    let (n, falls) = rooms_and_falls::<W>(record, &padded(record))?;
     let lengthened = used + record.len();
     if lengthened > BOOK_CAPACITY {
         return Err(Refusal::BookLength.into());
@@ -109,6 +106,24 @@ pub(super) fn add<W: Walk>(
     count.add(n as u32, falls);
     *summary = count.summary();
     Ok(lengthened)
+}
+
+/// The number of rooms of a record, of which the window is a copy, or one of 9,
+/// 10, 11, 14, 12 and 13.
+#[inline(always)]
+pub(super) fn accepted(record: &[u8], window: &[u8; WINDOW]) -> Result<usize, Refusal> {
+    rooms_and_falls::<ByFours>(record, window).map(|(n, _)| n)
+}
+
+/// The number of rooms of a record, of which the window is a copy, and that of
+/// its third bits that are 1, or one of 9, 10, 11, 14, 12 and 13.
+#[inline(always)]
+fn rooms_and_falls<W: Walk>(record: &[u8], window: &[u8; WINDOW]) -> Result<(usize, u32), Refusal> {
+    let (n, _) = body_of(record)?;
+    match falls::<W>(n as u8, window) {
+        Some(falls) => Ok((n, falls)),
+        None => Err(refusal_at_the_front(record)),
+    }
 }
 
 /// What is counted in the used part of a book.
@@ -133,7 +148,8 @@ fn count_of<W: Walk>(book: &[u8], used: usize) -> Result<Count, BookRefusal> {
 }
 
 /// The first bytes of a slice, and zeros if there are fewer.
-fn padded(bytes: &[u8]) -> [u8; WINDOW] {
+#[inline(always)]
+pub(super) fn padded(bytes: &[u8]) -> [u8; WINDOW] {
     let mut window = [0; WINDOW];
     let length = bytes.len().min(WINDOW);
     window[..length].copy_from_slice(&bytes[..length]);

@@ -4,7 +4,7 @@ use super::forms::{FEW, OF_FEW, OF_LAST};
 
 /// The bytes that the walk reads: the kind, the longest body, and as many more
 /// as make every word whole.
-pub(super) const WINDOW: usize = 104;
+pub(in crate::fast) const WINDOW: usize = 104;
 
 /// A way to take the steps of a record, which begins before the first one.
 pub(in crate::fast) trait Walk: Default {
