@@ -23,7 +23,7 @@ module _ (t : ℕ → Triple) (m : ℕ) (accepted : Accepted t (suc m)) where
   f = labelAt (decode t n)
 
   -- forward: looking down from position i, the nearest one whose label is past i's
-  newest-nearest : (way : Way) (i : ℕ) → 1 ≤ i → i ≤ n → Nearest down (λ j. Less way (f i) (f j)) n i (newestMet t i way)
+  pub newest-nearest : (way : Way) (i : ℕ) → 1 ≤ i → i ≤ n → Nearest down (λ j. Less way (f i) (f j)) n i (newestMet t i way)
   newest-nearest way zero a b = absurd (omega arith)
   newest-nearest way (suc k) a b =
       let e = met-newest t m accepted k (omega arith) way in

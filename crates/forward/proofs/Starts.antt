@@ -16,13 +16,8 @@ use Rattle.record.specs.Way.{Way, up, down}
 use Rattle.record.specs.Sides.{rest-of}
 use Rattle.record.specs.Decode.{bitsOf}
 use Rattle.record.specs.Positions.{firstOf, newestAhead, newestAfter, newestMet, pushed}
-use Rattle.steps.specs.Turn.{risesBy, fallsBy}
-use Rattle.steps.specs.Stack.{stackOf, stack-pushed, rest-stack}
-
--- 1 where the new label meets the current run, looking that way
-abbrev pub meetsBy : Triple → Way → ℕ
-meetsBy t up = fallsBy t
-meetsBy t down = risesBy t
+use Rattle.steps.specs.Turn.{meetsBy}
+use Rattle.steps.specs.Stack.{stackOf, stack-pushed, rest-stack, first-top}
 
 pub record Placed (t : ℕ → Triple) (k : ℕ) (way : Way) (starts newest : List ℕ) (height : ℕ) : Type 0 where
   pub stack-is : newestAfter t k way ≡ stackOf newest height
@@ -44,12 +39,6 @@ placed-first t way starts newest long room none = record {
     first : (i : ℕ) → i < 1 → getD (set starts 0 0) i 0 ≡ newestMet t (suc i) way
     first zero h = getD-set-same starts 0 0 0 (omega arith)
     first (suc i) h = absurd (omega arith)
-
--- the top, or the 0 under the stack
-first-top : (s : List ℕ) (h : ℕ) → getD s 0 0 ≡ 0 → firstOf (stackOf s h) ≡ getD s h 0
-unfolding stackOf firstOf
-first-top s zero none = sym none
-first-top s (suc h) none = refl
 
 module _ {t : ℕ → Triple} {k : ℕ} {way : Way} {starts newest : List ℕ} {h : ℕ} (now : Placed t k way starts newest h) (more : k < 254) (room : h + 1 < 255) where
   abbrev u : Triple

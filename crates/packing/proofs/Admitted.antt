@@ -1,37 +1,43 @@
--- What is refused of a record and lists, and what is not, once the record's lines are known: its number of rooms is its kind.
+-- What is refused of a record and lists, and what is not, once the record is accepted: its number of rooms is its kind.
 use mathlib.Core.List.{List}
 use mathlib.Core.Logic.{inl, inr}
 use mathlib.Core.Path.{_≡_, sym, subst}
-use Prim.Native.Nat.{ℕ}
+use Prim.Native.Nat.{ℕ, _≤_}
 use native.Mathlib.Decide.{ℕ-discrete}
+use native.Mathlib.Omega.{arith}
 use Rattle.finite.specs.Decide.{stable}
 use Rattle.record.specs.declared.Refusal.the-variants as refusal
 use Rattle.record.specs.Read.{kindOf}
+use Rattle.judging.specs.Judge.{Accepts}
 use Rattle.sizes.specs.Direction.{Direction}
 use Rattle.sizes.specs.Lists.{EachWay}
 use Rattle.sizes.specs.Sized.{OtherLength, lengthsOf, ZeroSize, Unsized, other-length, zero-size}
-use Rattle.packing.specs.Lined.{RoomLines, OtherLengths, Admitted}
+use Rattle.packing.specs.Admitted.{OtherLengths, Admitted}
 
-module _ {bytes : List ℕ} {n : ℕ} {starts ends : EachWay (List ℕ)} (l : RoomLines bytes n starts ends) (sizes : EachWay (List ℕ)) (corners : EachWay ℕ) where
+module _ {bytes : List ℕ} {n fallen : ℕ} (a : Accepts bytes n fallen) (sizes : EachWay (List ℕ)) (corners : EachWay ℕ) where
   abbrev Others : (n : ℕ) → Type 0
   Others n = OtherLengths n (lengthsOf sizes) corners
 
   of-kind : ¬ OtherLength n (lengthsOf sizes) → ¬ OtherLength n corners → ¬ Others (kindOf bytes)
-  of-kind a b h = elim (subst Others (sym (l .kind)) h) [ inl p ↦ a p | inr p ↦ b p ]
+  of-kind s c h = elim (subst Others (sym (a .rooms-are)) h) [ inl p ↦ s p | inr p ↦ c p ]
 
   pub other-sizes : OtherLength n (lengthsOf sizes) → Unsized bytes (Others (kindOf bytes)) sizes refusal.OtherLength
-  other-sizes h = other-length (l .readable) (subst Others (l .kind) (inl h))
+  other-sizes h = other-length (a .readable) (subst Others (a .rooms-are) (inl h))
 
   pub other-corners : OtherLength n corners → Unsized bytes (Others (kindOf bytes)) sizes refusal.OtherLength
-  other-corners h = other-length (l .readable) (subst Others (l .kind) (inr h))
+  other-corners h = other-length (a .readable) (subst Others (a .rooms-are) (inr h))
 
-  module _ (a : ¬ OtherLength n (lengthsOf sizes)) (b : ¬ OtherLength n corners) where
+  module _ (s : ¬ OtherLength n (lengthsOf sizes)) (c : ¬ OtherLength n corners) where
     pub zero-sizes : ZeroSize sizes → Unsized bytes (Others (kindOf bytes)) sizes refusal.ZeroSize
-    zero-sizes h = zero-size (l .readable) (of-kind a b) h
+    zero-sizes h = zero-size (a .readable) (of-kind s c) h
 
-    pub admitted : ¬ ZeroSize sizes → Admitted bytes n sizes corners starts ends
-    admitted h = record { lined = l; sized = record { readable = l .readable; same-length = of-kind a b; no-zero = h } }
+    pub admitted : ¬ ZeroSize sizes → Admitted bytes n sizes corners
+    admitted h = record { kind = a .rooms-are; few = a .few; sized = record { readable = a .readable; same-length = of-kind s c; no-zero = h } }
 
 -- lists of length n
 pub same-lengths : {n : ℕ} {lengths : EachWay ℕ} → ¬ OtherLength n lengths → (way : Direction) → lengths way ≡ n
 same-lengths {n} {lengths} h way = stable (ℕ-discrete (lengths way) n) (λ d. h (way, d))
+
+-- an accepted record has a room
+pub some-rooms : {bytes : List ℕ} {n fallen : ℕ} → Accepts bytes n fallen → 1 ≤ n
+some-rooms {bytes} a = let some : ¬ (kindOf bytes ≡ 0) = λ e. a .readable .kind (inr e) in omega (arith, a .rooms-are)

@@ -1,9 +1,9 @@
 -- Laws that the functions' proofs cite.
-pub mod Ends
-pub mod Ruled
-pub mod Kept
-pub mod Walked
-pub mod Held
+pub mod Stacked
+pub mod OneWay
+pub mod Turned
+pub mod Lowering
+pub mod Holding
 pub mod Zero
 pub mod Signed
 pub mod Admitted

@@ -1,3 +1,3 @@
--- What the code keeps of a record's rooms, and what its walks give
-pub mod Lined
+-- What is refused, and what the walks give
+pub mod Admitted
 pub mod Along

@@ -1,27 +1,22 @@
 // Rooms of real sizes: the lowest corners of a record's rooms, the slack of an outline, and whether a placing honours all relations.
 ghost use mathlib.Core.Path.{_≡_};
-ghost use Prim.Native.Nat.{_*_, _≤_, _<_, max};
+ghost use Prim.Native.Nat.{_+_, _≤_, _<_, max};
 ghost use lib.IntN.{pos, _-ℤ_};
 ghost use lib.ListN.{length};
 ghost use Rattle.finite.specs.Decide.{Tells};
-ghost use Rattle.reading.specs.Answer.{readingOf};
-ghost use Rattle.sizes.specs.Lists.{eachWay};
+ghost use Rattle.record.specs.Labels.{labelAt};
+ghost use Rattle.sizes.specs.Direction.{across, upward};
+ghost use Rattle.sizes.specs.Lists.{eachWay, HonoursAll};
 ghost use Rattle.sizes.specs.Sized.{OtherLength, ZeroSize};
 ghost use Rattle.sizes.specs.Answer.{LowestCorners, Few, slackAnswer, placingAnswer};
-ghost use Rattle.packing.specs.Lined.{EndsPut, Lined, Admits};
-ghost use Rattle.packing.specs.Along.{GivesLowest, TellsHonours};
-use reading::Reading;
+ghost use Rattle.packing.specs.Admitted.{Admits};
+ghost use Rattle.packing.specs.Along.{labelsIn, Walkable, LowestFor};
+use judging::Checked;
+use judging::Judged;
 use record::Refusal;
 use sizes::CornersAnswer;
 use sizes::PlacingAnswer;
 use sizes::SlackAnswer;
-
-// A byte as an index.
-fn index(byte: u8) -> usize
-    ensures { λ r. ⌜ (r ≡ byte) × (r ≤ 255) ⌝ }
-{
-    byte as usize
-}
 
 // A size as a length.
 fn length_of(size: u16) -> u32
@@ -40,88 +35,64 @@ fn larger(a: u32, b: u32) -> u32
     a
 }
 
-// ---- the lines along which rooms end
+// ---- the walks along the triples
+// The line of a room lies at the furthest end of it and of the rooms behind it. Of the current run and of the runs below it and above it
+// the line of the newest room is known, across and up, in a stack for each, the nearest run's on top; under each stack is the outline's
+// line, 0. Each turn stores the current run's lines above the tops, and the counts of runs say how much of a stack is in use. A new room
+// starts across at the line of the run that it meets below it, and up at that of the run that it meets above it. It ends on one line with
+// the other of the two where the triple joins it to that.
 
-// A byte where a bit is set, and else 0.
-fn chosen(bit: u8, byte: u8) -> u8
-    requires { ⌜ bit ≤ 1 ⌝ }
-    ensures { λ r. ⌜ r ≡ bit * byte ⌝ }
-{
-    if bit == 1 {
-        return byte;
-    }
-    0
+// The needed length each way.
+struct Needed {
+    across: u32,
+    up: u32,
 }
 
-// The earlier room with which each room ends on one line, 0 if there is none: across, where the first bit of its triple is set, that is
-// the last one which is above it, and upward, where the second is set, the last one left of it.
-fn put_ends(
-    n: usize,
-    triples: &[u8; 255],
-    left: &[u8; 255],
-    bottom: &[u8; 255],
-    right: &mut [u8; 255],
-    top: &mut [u8; 255],
-)
-    requires { ⌜ (1 ≤ n) × (n ≤ 255) × (length (now right) ≡ 255) × (length (now top) ≡ 255) ⌝ }
-    ensures { λ _. ⌜ EndsPut n 4 (now (triples .entry)) (now (bottom .entry)) (now (right .exit))
-        × EndsPut n 2 (now (triples .entry)) (now (left .entry)) (now (top .exit)) ⌝ }
+// The lowest corners of the rooms, from the front of two slices, and the needed lengths.
+fn lowest(body: &[u8], widths: &[u16], heights: &[u16], x: &mut [u32], y: &mut [u32]) -> Needed
+    requires { ⌜ Walkable (now body) (length (now widths)) × (length (now heights) ≡ length (now widths)) ⌝
+        ∗ ⌜ (length (now widths) ≤ length (now x)) × (length (now widths) ≤ length (now y)) ⌝ }
+    ensures across { λ r. ⌜ LowestFor (labelAt (labelsIn (now (body .entry)) (length (now (widths .entry))))) across
+        (length (now (widths .entry))) (now (widths .entry)) (now (x .entry)) (r .across) (now (x .exit)) ⌝ }
+    ensures upward { λ r. ⌜ LowestFor (labelAt (labelsIn (now (body .entry)) (length (now (widths .entry))))) upward
+        (length (now (widths .entry))) (now (heights .entry)) (now (y .entry)) (r .up) (now (y .exit)) ⌝ }
 {
-    right[0] = 0;
-    top[0] = 0;
+    let mut across_below = [0u32; 256];
+    let mut across_above = [0u32; 256];
+    let mut up_below = [0u32; 256];
+    let mut up_above = [0u32; 256];
+    let mut runs_below = 0;
+    let mut runs_above = 0;
+    let mut right = length_of(widths[0]);
+    let mut top = length_of(heights[0]);
     let mut k = 0;
-    while k + 1 < n {
-        let triple = triples[k];
+    while k + 1 < widths.len() {
+        let turn = steps::turn_of(bits::group(body, k));
+        across_below[runs_below + 1] = right;
+        across_above[runs_above + 1] = right;
+        up_below[runs_below + 1] = top;
+        up_above[runs_above + 1] = top;
+        let below = runs_below + turn.rises;
+        let above = runs_above + turn.falls;
+        let left = across_below[below];
+        let bottom = up_above[above];
         let next = k + 1;
-        right[next] = chosen(triple / 4 % 2, bottom[next]);
-        top[next] = chosen(triple / 2 % 2, left[next]);
+        x[next] = left;
+        y[next] = bottom;
+        let beside = across_above[steps::chosen(turn.above, above, 0)];
+        let under = up_below[steps::chosen(turn.below, below, 0)];
+        right = larger(left + length_of(widths[next]), beside);
+        top = larger(bottom + length_of(heights[next]), under);
+        runs_below = below - turn.below;
+        runs_above = above - turn.above;
         k = next;
     }
-}
-
-// Of each room of a record, across and upward, the last earlier room that stands before it, and the earlier room with which it ends on
-// one line; or why the record is refused.
-fn lines(
-    record: &[u8],
-    left: &mut [u8; 255],
-    right: &mut [u8; 255],
-    bottom: &mut [u8; 255],
-    top: &mut [u8; 255],
-) -> Reading
-    requires { ⌜ (length (now left) ≡ 255) × (length (now right) ≡ 255) × (length (now bottom) ≡ 255) × (length (now top) ≡ 255) ⌝ }
-    ensures answer { λ r. ⌜ r ≡ readingOf (now («record» .entry)) ⌝ }
-    ensures lines { λ r. ⌜ Lined r (now («record» .entry)) (eachWay (now (left .exit)) (now (bottom .exit)))
-        (eachWay (now (right .exit)) (now (top .exit))) ⌝ }
-{
-    let mut triples = [0u8; 255];
-    let mut lower = [0u8; 255];
-    match reading::check(record, &mut triples, &mut lower, left, bottom) {
-        Reading::Refused(refusal) => Reading::Refused(refusal),
-        Reading::Read(n) => {
-            put_ends(n, &triples, left, bottom, right, top);
-            Reading::Read(n)
-        }
+    x[0] = 0;
+    y[0] = 0;
+    Needed {
+        across: right,
+        up: top,
     }
-}
-
-// The lowest corners of rooms in one direction, from the front of a slice, and the needed length. The line of a room lies at the furthest
-// end of it and of the rooms behind it, so a room starts at the line of the last earlier one that stands before it. Line 0 is the
-// outline's.
-fn lowest(starts: &[u8; 255], ends: &[u8; 255], sizes: &[u16], corners: &mut [u32]) -> u32
-    requires { ⌜ (length (now sizes) ≤ 255) × (length (now sizes) ≤ length (now corners)) ⌝ }
-    ensures { λ r. ⌜ GivesLowest (now (starts .entry)) (now (ends .entry)) (now (sizes .entry))
-        (now (corners .entry)) r (now (corners .exit)) ⌝ }
-{
-    let mut line = [0u32; 256];
-    let mut i = 0;
-    while i < sizes.len() {
-        let start = line[index(starts[i])];
-        let end = start + length_of(sizes[i]);
-        corners[i] = start;
-        line[i + 1] = larger(end, line[index(ends[i])]);
-        i += 1;
-    }
-    line[i]
 }
 
 // A corner or a size as a wider number: a corner's end may lie beyond 32 bits.
@@ -135,28 +106,57 @@ fn wide(length: u32) -> u64
 fn further(a: u64, b: u64) -> u64
     ensures { λ r. ⌜ r ≡ max a b ⌝ }
 {
-    if a < b {
-        return b;
+    if b < a {
+        return a;
     }
-    a
+    b
 }
 
-// Whether rooms with these corners honour the relations of one direction: each starts no earlier than the line of the last earlier one
-// that stands before it.
-fn keeps(starts: &[u8; 255], ends: &[u8; 255], sizes: &[u16], corners: &[u32]) -> bool
-    requires { ⌜ (length (now sizes) ≤ 255) × (length (now corners) ≡ length (now sizes)) ⌝ }
-    ensures { λ r. ⌜ TellsHonours r (now (starts .entry)) (now (ends .entry)) (now (sizes .entry)) (now (corners .entry)) ⌝ }
+// Where a room ends that begins at a corner.
+fn end_of(corner: u32, size: u16) -> u64
+    ensures { λ r. ⌜ r ≡ corner + size ⌝ }
 {
-    let mut line = [0u64; 256];
-    let mut i = 0;
-    while i < sizes.len() {
-        let start = wide(corners[i]);
-        if start < line[index(starts[i])] {
+    wide(corner) + wide(length_of(size))
+}
+
+// Whether rooms with these corners honour all relations: none begins before the line at which it would start.
+fn keeps(body: &[u8], widths: &[u16], heights: &[u16], x: &[u32], y: &[u32]) -> bool
+    requires { ⌜ Walkable (now body) (length (now widths)) × (length (now heights) ≡ length (now widths)) ⌝
+        ∗ ⌜ (length (now x) ≡ length (now widths)) × (length (now y) ≡ length (now widths)) ⌝ }
+    ensures { λ r. ⌜ Tells r (HonoursAll (labelsIn (now (body .entry)) (length (now (widths .entry))))
+        (eachWay (now (widths .entry)) (now (heights .entry))) (eachWay (now (x .entry)) (now (y .entry)))) ⌝ }
+{
+    let mut across_below = [0u64; 256];
+    let mut across_above = [0u64; 256];
+    let mut up_below = [0u64; 256];
+    let mut up_above = [0u64; 256];
+    let mut runs_below = 0;
+    let mut runs_above = 0;
+    let mut right = end_of(x[0], widths[0]);
+    let mut top = end_of(y[0], heights[0]);
+    let mut k = 0;
+    while k + 1 < widths.len() {
+        let turn = steps::turn_of(bits::group(body, k));
+        across_below[runs_below + 1] = right;
+        across_above[runs_above + 1] = right;
+        up_below[runs_below + 1] = top;
+        up_above[runs_above + 1] = top;
+        let below = runs_below + turn.rises;
+        let above = runs_above + turn.falls;
+        let next = k + 1;
+        if wide(x[next]) < across_below[below] {
             return false;
         }
-        let end = start + wide(length_of(sizes[i]));
-        line[i + 1] = further(end, line[index(ends[i])]);
-        i += 1;
+        if wide(y[next]) < up_above[above] {
+            return false;
+        }
+        let beside = across_above[steps::chosen(turn.above, above, 0)];
+        let under = up_below[steps::chosen(turn.below, below, 0)];
+        right = further(end_of(x[next], widths[next]), beside);
+        top = further(end_of(y[next], heights[next]), under);
+        runs_below = below - turn.below;
+        runs_above = above - turn.above;
+        k = next;
     }
     true
 }
@@ -181,35 +181,30 @@ fn zero_size(widths: &[u16], heights: &[u16]) -> bool
 }
 
 // What the three calls refuse alike, in their order: the record, lists of sizes or corners with another length than it has rooms, and a
-// size of 0. Else how many rooms there are, and their lines.
+// size of 0. Else how many rooms there are.
 fn admit(
     record: &[u8],
     widths: &[u16],
     heights: &[u16],
     x_length: usize,
     y_length: usize,
-    left: &mut [u8; 255],
-    right: &mut [u8; 255],
-    bottom: &mut [u8; 255],
-    top: &mut [u8; 255],
-) -> Reading
-    requires { ⌜ (length (now left) ≡ 255) × (length (now right) ≡ 255) × (length (now bottom) ≡ 255) × (length (now top) ≡ 255) ⌝ }
+) -> Checked
     ensures { λ r. ⌜ Admits r (now («record» .entry)) (eachWay (now (widths .entry)) (now (heights .entry)))
-        (eachWay «x_length» «y_length») (eachWay (now (left .exit)) (now (bottom .exit))) (eachWay (now (right .exit)) (now (top .exit))) ⌝ }
+        (eachWay «x_length» «y_length») ⌝ }
 {
-    match lines(record, left, right, bottom, top) {
-        Reading::Refused(refusal) => Reading::Refused(refusal),
-        Reading::Read(n) => {
+    match judging::judge(record) {
+        Judged::Refused(refusal) => Checked::Refused(refusal),
+        Judged::Accepted(n, _) => {
             if other_length(n, widths.len(), heights.len()) {
-                return Reading::Refused(Refusal::OtherLength);
+                return Checked::Refused(Refusal::OtherLength);
             }
             if other_length(n, x_length, y_length) {
-                return Reading::Refused(Refusal::OtherLength);
+                return Checked::Refused(Refusal::OtherLength);
             }
             if zero_size(widths, heights) {
-                return Reading::Refused(Refusal::ZeroSize);
+                return Checked::Refused(Refusal::ZeroSize);
             }
-            Reading::Read(n)
+            Checked::Passed(n)
         }
     }
 }
@@ -228,31 +223,16 @@ pub fn lowest_corners(
         (eachWay (now (x .entry)) (now (y .entry))) r (eachWay (now (x .exit)) (now (y .exit))) ⌝ }
     ensures few { λ r. ⌜ Few r ⌝ }
 {
-    let mut left = [0u8; 255];
-    let mut right = [0u8; 255];
-    let mut bottom = [0u8; 255];
-    let mut top = [0u8; 255];
-    match admit(
-        record,
-        widths,
-        heights,
-        widths.len(),
-        heights.len(),
-        &mut left,
-        &mut right,
-        &mut bottom,
-        &mut top,
-    ) {
-        Reading::Refused(refusal) => CornersAnswer::Refused(refusal),
-        Reading::Read(n) => {
+    match admit(record, widths, heights, widths.len(), heights.len()) {
+        Checked::Refused(refusal) => CornersAnswer::Refused(refusal),
+        Checked::Passed(n) => {
             if x.len() < n {
                 return CornersAnswer::Refused(Refusal::ShortOutput);
             }
             if y.len() < n {
                 return CornersAnswer::Refused(Refusal::ShortOutput);
             }
-            lowest(&left, &right, widths, x);
-            lowest(&bottom, &top, heights, y);
+            lowest(&record[1..], widths, heights, x, y);
             CornersAnswer::Placed(n)
         }
     }
@@ -276,27 +256,16 @@ pub fn slack(
     ensures { λ r. ⌜ r ≡ slackAnswer (now («record» .entry)) (eachWay (now (widths .entry)) (now (heights .entry)))
         (eachWay «outline_width» «outline_height») ⌝ }
 {
-    let mut left = [0u8; 255];
-    let mut right = [0u8; 255];
-    let mut bottom = [0u8; 255];
-    let mut top = [0u8; 255];
-    match admit(
-        record,
-        widths,
-        heights,
-        widths.len(),
-        heights.len(),
-        &mut left,
-        &mut right,
-        &mut bottom,
-        &mut top,
-    ) {
-        Reading::Refused(refusal) => SlackAnswer::Refused(refusal),
-        Reading::Read(_) => {
-            let mut corners = [0u32; 255];
-            let width = lowest(&left, &right, widths, &mut corners);
-            let height = lowest(&bottom, &top, heights, &mut corners);
-            SlackAnswer::Slack(less(outline_width, width), less(outline_height, height))
+    match admit(record, widths, heights, widths.len(), heights.len()) {
+        Checked::Refused(refusal) => SlackAnswer::Refused(refusal),
+        Checked::Passed(_) => {
+            let mut x = [0u32; 255];
+            let mut y = [0u32; 255];
+            let needed = lowest(&record[1..], widths, heights, &mut x, &mut y);
+            SlackAnswer::Slack(
+                less(outline_width, needed.across),
+                less(outline_height, needed.up),
+            )
         }
     }
 }
@@ -312,30 +281,13 @@ pub fn placing_in(
     ensures { λ r. ⌜ r ≡ placingAnswer (now («record» .entry)) (eachWay (now (widths .entry)) (now (heights .entry)))
         (eachWay (now (x .entry)) (now (y .entry))) ⌝ }
 {
-    let mut left = [0u8; 255];
-    let mut right = [0u8; 255];
-    let mut bottom = [0u8; 255];
-    let mut top = [0u8; 255];
-    match admit(
-        record,
-        widths,
-        heights,
-        x.len(),
-        y.len(),
-        &mut left,
-        &mut right,
-        &mut bottom,
-        &mut top,
-    ) {
-        Reading::Refused(refusal) => PlacingAnswer::Refused(refusal),
-        Reading::Read(_) => {
-            if !keeps(&left, &right, widths, x) {
-                return PlacingAnswer::Refused(Refusal::BrokenRelation);
+    match admit(record, widths, heights, x.len(), y.len()) {
+        Checked::Refused(refusal) => PlacingAnswer::Refused(refusal),
+        Checked::Passed(_) => {
+            if keeps(&record[1..], widths, heights, x, y) {
+                return PlacingAnswer::Accepted;
             }
-            if !keeps(&bottom, &top, heights, y) {
-                return PlacingAnswer::Refused(Refusal::BrokenRelation);
-            }
-            PlacingAnswer::Accepted
+            PlacingAnswer::Refused(Refusal::BrokenRelation)
         }
     }
 }

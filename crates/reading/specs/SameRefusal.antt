@@ -3,7 +3,7 @@ use mathlib.Core.List.{List}
 use Prim.Native.Nat.{ℕ}
 use mathlib.Core.Path.{_≡_, sym, ap, subst, _∙_}
 use Rattle.record.specs.Read.{kindOf}
-use Rattle.record.specs.Checked.{checked, Refuses, Sorted, refused, read, sorted, refused-checked, readable-checked}
+use Rattle.record.specs.Checked.{checked, Sorted, refused, read, sorted, refused-checked, readable-checked}
 use Rattle.record.specs.declared.Refusal.{Refusal}
 use Rattle.reading.specs.Answer.{readingOf}
 use Rattle.reading.specs.declared.Reading.{Reading}
@@ -17,16 +17,13 @@ abbrev refusalOf : Reading → Refusal → Refusal
 refusalOf (reading.Read n) other = other
 refusalOf (reading.Refused refusal) other = refusal
 
--- it has its cause
-pub refused-cause : (bytes : List ℕ) (refusal : Refusal) → reading.Refused refusal ≡ readingOf bytes → Refuses bytes refusal
-refused-cause bytes refusal e = go (sorted bytes)
-  where
-    go : Sorted bytes → Refuses bytes refusal
-    go (refused cause) = subst (Refuses bytes)
-        (ap (λ (r : Reading). refusalOf r refusal) (refused-checked reading.Refused bytes (reading.Read (kindOf bytes)) cause ∙ sym e)) cause
-    go (read all) = absurd (subst Is-read (sym (e ∙ sym (readable-checked reading.Refused bytes (reading.Read (kindOf bytes)) all))) tt)
-
--- so a record that is not read is refused by every call alike
+-- a record that is not read is refused by every call alike
 pub same-refusal : {A : Type 0} (refuse : Refusal → A) (bytes : List ℕ) (good : A) (refusal : Refusal)
     → reading.Refused refusal ≡ readingOf bytes → refuse refusal ≡ checked refuse bytes good
-same-refusal refuse bytes good refusal e = refused-checked refuse bytes good (refused-cause bytes refusal e)
+same-refusal refuse bytes good refusal e = go (sorted bytes)
+  where
+    go : Sorted bytes → refuse refusal ≡ checked refuse bytes good
+    go (refused cause) =
+        ap (λ (r : Reading). refuse (refusalOf r refusal)) (e
+        ∙ sym (refused-checked reading.Refused bytes (reading.Read (kindOf bytes)) cause)) ∙ refused-checked refuse bytes good cause
+    go (read all) = absurd (subst Is-read (sym (e ∙ sym (readable-checked reading.Refused bytes (reading.Read (kindOf bytes)) all))) tt)

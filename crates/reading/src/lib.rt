@@ -15,7 +15,7 @@ pub enum Reading {
 
 // The first refusal of the order whose cause the record has; else how many labels it has, and what is noted of each of them for
 // `finish`.
-pub fn check(
+fn check(
     record: &[u8],
     triples: &mut [u8; 255],
     lower: &mut [u8; 255],

@@ -1,9 +1,9 @@
 -- What is said of the starts in one direction, said of the lists of corners: the corner at a position is where its room starts.
 use mathlib.Core.List.{List}
 use mathlib.Core.Path.{_≡_, sym, ap, _∙_}
-use Prim.Native.Nat.{ℕ, zero, suc, _+_, _<_}
+use Prim.Native.Nat.{ℕ, zero, suc, _+_}
 use native.Mathlib.Omega.{arith}
-use lib.ListN.{length, getD}
+use lib.ListN.{length}
 use lib.Seq.{ext-getD}
 use Rattle.finite.specs.Search.{Each}
 use Rattle.finite.specs.Table.{length-table, getD-table}

@@ -1,6 +1,6 @@
 -- The lines along which rooms end, as the walk along the positions keeps them: the line of room k lies at the furthest end of the rooms
 -- behind it. A room starts no earlier than the line of the last room before it, and the line of the last room of all is the needed length.
-use mathlib.Core.Path.{_≡_}
+use mathlib.Core.Path.{_≡_, ap}
 use mathlib.Core.Logic.{_⊎_, inl, inr}
 use Prim.Native.Nat.{ℕ, zero, suc, _+_, _≤_, _<_, max}
 use native.Mathlib.Omega.{arith}
@@ -39,6 +39,13 @@ LineAt f way end k v = Furthest (Behind f (wayOf way) k) end v
 -- the outline's line, at which rooms start that have none before them
 pub line-of-outline : (f : ℕ → ℕ) (way : Direction) (end : ℕ → ℕ) → LineAt f way end 0 0
 line-of-outline f way end = record { reached = λ i b. absurd (omega (arith, b .from, b .to)); no-further = λ bound h. omega arith }
+
+-- the line of the first room: only that is behind it
+pub line-of-first : (f : ℕ → ℕ) (way : Direction) (end : ℕ → ℕ) → LineAt f way end 1 (end 1)
+line-of-first f way end = record {
+  reached = λ i b. let first : i ≡ 1 = omega (arith, b .from, b .to) in omega (arith, ap end first);
+  no-further = λ bound h. h 1 record { from = omega arith; to = omega arith; seen = λ v p q. absurd (q p) };
+}
 
 module _ (f : ℕ → ℕ) (n : ℕ) (once : EachOnce f n) (not-barred : ¬ Barred f n) (way : Direction) (size x : ℕ → ℕ) where
   abbrev end : ℕ → ℕ

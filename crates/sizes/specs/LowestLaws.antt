@@ -74,3 +74,11 @@ module _ (f : ℕ → ℕ) (way : Direction) (size : ℕ → ℕ) (n : ℕ) wher
   -- rooms of 16-bit sizes start no further than so many of the largest, one after the other
   pub start-small : Each (λ i. size i ≤ 65535) 1 (suc n) → (j : ℕ) → 1 ≤ j → j ≤ n → startAt f way size n j ≤ 65535 * (j - 1)
   start-small small = none-lower (λ j. 65535 * (j - 1)) (λ i a b j c d p. omega (arith, before→earlier f way p, small i a b))
+
+  -- the first room starts at 0
+  pub first-start : 1 ≤ n → startAt f way size n 1 ≡ 0
+  first-start some = omega (
+    arith,
+    starts-at-furthest-end 1 some,
+    furthest-smallest (startAt f way size n) 1 0 (λ i a b p. absurd (omega (arith, before→earlier f way p))),
+  )

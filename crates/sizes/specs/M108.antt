@@ -1,12 +1,11 @@
 -- M-108: the lowest corners, placings and the slack, sentence by sentence. All is said of both directions at once.
 use mathlib.Core.List.{List}
-use mathlib.Core.Logic.{_≢_, _↔_, _⊎_, inl, inr, ite}
-use mathlib.Core.Path.{_≡_, refl, sym, ap, subst, _∙_}
-use Prim.Native.Nat.{ℕ, zero, suc, _+_, _-_, _*_, _^_, _≤_, _<_}
-use native.Mathlib.Decide.{decLt}
+use mathlib.Core.Logic.{_≢_, _↔_, inl, inr}
+use mathlib.Core.Path.{_≡_, sym, subst, _∙_}
+use Prim.Native.Nat.{ℕ, zero, suc, _+_, _-_, _^_, _≤_, _<_}
 use native.Mathlib.Omega.{arith}
-use lib.IntN.{ℤ, pos, _-ℤ_}
-use lib.ListN.{length, getD}
+use lib.IntN.{ℤ}
+use lib.ListN.{length}
 use Rattle.finite.specs.Decide.{le-or-lt}
 use Rattle.finite.specs.Search.{Each}
 use Rattle.finite.specs.Extremes.{greatest-ge, greatest-smallest}
@@ -17,10 +16,9 @@ use Rattle.record.specs.Demand2.{OnlyList}
 use Rattle.record.specs.Demand2Read.{readable-only-list}
 use Rattle.drawing.specs.Side.{sideOf}
 use Rattle.drawing.specs.declared.Room.{Room}
-use Rattle.drawing.specs.declared.Side.{Side}
-use Rattle.drawing.specs.declared.Side.the-variants.{Left, Right, Above, Below}
+use Rattle.drawing.specs.declared.Side.the-variants.{Right, Above}
 use Rattle.rooms.specs.Causes.{AcceptedRooms}
-use Rattle.rooms.specs.LabelList.{labelList, recordOfRooms}
+use Rattle.rooms.specs.LabelList.{recordOfRooms}
 use Rattle.rooms.specs.Demand3.{label-list-back}
 use Rattle.sizes.specs.Direction.{Direction, across, upward, Before}
 use Rattle.sizes.specs.Lowest.{furthestBefore, startAt, neededLength}
@@ -28,15 +26,13 @@ use Rattle.sizes.specs.Lists.{EachWay, numberAt, lowestCorners, slackOf,
 use Rattle.sizes.specs.Sized.{Sized}
 use Rattle.sizes.specs.Answer.{slackAnswer, placingAnswer}
 use Rattle.sizes.specs.Placed.{startOf, endOf, PlacedCovers, FitsOutline, NotNegative, RoomsHonour, OwnCorners}
-use Rattle.sizes.specs.Demand1.{OtherLists, SlackSays, no-slack, slack-is, PlacingSays, no-placing, broken, accepted, demand1-slack-cause, demand1-placing-cause, demand1-placing-answer}
+use Rattle.sizes.specs.Demand1.{OtherLists, SlackSays, slack-is, PlacingSays, accepted, demand1-slack-cause, demand1-placing-cause, demand1-placing-answer}
 use Rattle.sizes.specs.LowestLaws.{before→earlier, furthest-same, starts-at-furthest-end, only-starts, lowest-honour, none-lower, start-small}
-use Rattle.sizes.specs.CornersFacts.{corner-is, corners-length, corners-are, needed-is}
+use Rattle.sizes.specs.CornersFacts.{corner-is, corners-are, needed-is}
 use Rattle.sizes.specs.SideFacts.{left-iff-other-right, below-iff-other-above}
 use Rattle.sizes.specs.SlackFacts.{not-negative→at-least, at-least→not-negative}
 use Rattle.sizes.specs.OfRooms.{honours-iff-rooms-honour, own-corners-honour}
-use Rattle.sizes.specs.declared.SlackAnswer.{SlackAnswer}
 use Rattle.sizes.specs.declared.SlackAnswer.the-variants as slack
-use Rattle.sizes.specs.declared.PlacingAnswer.{PlacingAnswer}
 use Rattle.sizes.specs.declared.PlacingAnswer.the-variants as placing
 
 -- the lowest corners each way

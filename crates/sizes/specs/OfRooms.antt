@@ -1,7 +1,7 @@
 -- The relations that a placing honours are those of every accepted room list which has the labels, for the rooms at the positions.
 use mathlib.Core.List.{List}
 use mathlib.Core.Logic.{_↔_}
-use mathlib.Core.Path.{_≡_, sym, subst, subst₂, _∙_}
+use mathlib.Core.Path.{_≡_, sym, subst₂}
 use Prim.Native.Nat.{ℕ, suc, _≤_, _<_}
 use native.Mathlib.Omega.{arith}
 use lib.ListN.{length}

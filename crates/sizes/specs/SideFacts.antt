@@ -1,12 +1,10 @@
 -- A room stands left of another one exactly if the question answers that the other is right of it, and below it exactly if it answers
 -- that the other is above it.
 use mathlib.Core.Logic.{_≢_, _↔_, ite}
-use mathlib.Core.Path.{_≡_, refl, ap}
+use mathlib.Core.Path.{_≡_, refl}
 use Prim.Native.Nat.{ℕ, _<_}
 use native.Mathlib.Decide.{decLt}
 use native.Mathlib.Omega.{arith}
-use Rattle.finite.specs.Decide.{eq-or-ne}
-use mathlib.Core.Logic.{inl, inr}
 use Rattle.drawing.specs.Side.{sideOf}
 use Rattle.drawing.specs.declared.Side.{Side}
 use Rattle.drawing.specs.declared.Side.the-variants.{Left, Right, Above, Below}

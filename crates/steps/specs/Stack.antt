@@ -11,7 +11,7 @@ use lib.Seq.{getD-set-same, getD-set-other}
 use Rattle.bits.specs.Bit.{bit}
 use Rattle.record.specs.Sides.{rest-of}
 use Rattle.record.specs.Decode.{joinedSize}
-use Rattle.record.specs.Positions.{pushed}
+use Rattle.record.specs.Positions.{firstOf, pushed}
 
 -- the numbers in use, from the top
 unfoldable pub stackOf : List ℕ → ℕ → List ℕ
@@ -59,3 +59,9 @@ pub either-top : (s : List ℕ) (h x b : ℕ) → b ≤ 1 → h + 1 < length s �
 either-top s h x zero small l = omega (arith, ap (λ (i : ℕ). getD (set s (h + 1) x) i 0) (add-zero h), getD-set-other s (h + 1) h x 0 (omega arith))
 either-top s h x (suc zero) small l = omega (arith, getD-set-same s (h + 1) x 0 l)
 either-top s h x (suc (suc b)) small l = absurd (omega arith)
+
+-- the top, or the 0 under the stack
+pub first-top : (s : List ℕ) (h : ℕ) → getD s 0 0 ≡ 0 → firstOf (stackOf s h) ≡ getD s h 0
+unfolding stackOf firstOf
+first-top s zero none = sym none
+first-top s (suc h) none = refl
