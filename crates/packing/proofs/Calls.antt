@@ -30,7 +30,7 @@ use Rattle.sizes.specs.declared.CornersAnswer.the-variants as corners
 use Rattle.sizes.specs.declared.SlackAnswer.the-variants as slack
 use Rattle.sizes.specs.declared.PlacingAnswer.the-variants as placing
 use Rattle.packing.specs.Admitted.{OtherLengths, Admitted}
-use Rattle.packing.specs.Along.{labelsIn, Walkable, LowestFor}
+use Rattle.placing.specs.Along.{labelsIn, Walkable, LowestFor}
 use Rattle.packing.proofs.Admitted.{same-lengths}
 
 -- ---- admitted: there is a size for each room, and the body can be walked

@@ -1,9 +1,4 @@
 -- Laws that the functions' proofs cite.
-pub mod Stacked
-pub mod OneWay
-pub mod Turned
-pub mod Lowering
-pub mod Holding
 pub mod Zero
 pub mod Signed
 pub mod Admitted

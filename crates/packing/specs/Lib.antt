@@ -1,3 +1,2 @@
--- What is refused, and what the walks give
+-- What is refused
 pub mod Admitted
-pub mod Along

@@ -1,165 +1,19 @@
 // Rooms of real sizes: the lowest corners of a record's rooms, the slack of an outline, and whether a placing honours all relations.
 ghost use mathlib.Core.Path.{_≡_};
-ghost use Prim.Native.Nat.{_+_, _≤_, _<_, max};
+ghost use Prim.Native.Nat.{_<_};
 ghost use lib.IntN.{pos, _-ℤ_};
 ghost use lib.ListN.{length};
 ghost use Rattle.finite.specs.Decide.{Tells};
-ghost use Rattle.record.specs.Labels.{labelAt};
-ghost use Rattle.sizes.specs.Direction.{across, upward};
-ghost use Rattle.sizes.specs.Lists.{eachWay, HonoursAll};
+ghost use Rattle.sizes.specs.Lists.{eachWay};
 ghost use Rattle.sizes.specs.Sized.{OtherLength, ZeroSize};
 ghost use Rattle.sizes.specs.Answer.{LowestCorners, Few, slackAnswer, placingAnswer};
 ghost use Rattle.packing.specs.Admitted.{Admits};
-ghost use Rattle.packing.specs.Along.{labelsIn, Walkable, LowestFor};
 use judging::Checked;
 use judging::Judged;
 use record::Refusal;
 use sizes::CornersAnswer;
 use sizes::PlacingAnswer;
 use sizes::SlackAnswer;
-
-// A size as a length.
-fn length_of(size: u16) -> u32
-    ensures { λ r. ⌜ (r ≡ size) × (r ≤ 65535) ⌝ }
-{
-    size as u32
-}
-
-// The larger of two lengths. The compiler makes no jump of it, which could not be foreseen.
-fn larger(a: u32, b: u32) -> u32
-    ensures { λ r. ⌜ r ≡ max a b ⌝ }
-{
-    if a < b {
-        return b;
-    }
-    a
-}
-
-// ---- the walks along the triples
-// The line of a room lies at the furthest end of it and of the rooms behind it. Of the current run and of the runs below it and above it
-// the line of the newest room is known, across and up, in a stack for each, the nearest run's on top; under each stack is the outline's
-// line, 0. Each turn stores the current run's lines above the tops, and the counts of runs say how much of a stack is in use. A new room
-// starts across at the line of the run that it meets below it, and up at that of the run that it meets above it. It ends on one line with
-// the other of the two where the triple joins it to that.
-
-// The needed length each way.
-struct Needed {
-    across: u32,
-    up: u32,
-}
-
-// The lowest corners of the rooms, from the front of two slices, and the needed lengths.
-fn lowest(body: &[u8], widths: &[u16], heights: &[u16], x: &mut [u32], y: &mut [u32]) -> Needed
-    requires { ⌜ Walkable (now body) (length (now widths)) × (length (now heights) ≡ length (now widths)) ⌝
-        ∗ ⌜ (length (now widths) ≤ length (now x)) × (length (now widths) ≤ length (now y)) ⌝ }
-    ensures across { λ r. ⌜ LowestFor (labelAt (labelsIn (now (body .entry)) (length (now (widths .entry))))) across
-        (length (now (widths .entry))) (now (widths .entry)) (now (x .entry)) (r .across) (now (x .exit)) ⌝ }
-    ensures upward { λ r. ⌜ LowestFor (labelAt (labelsIn (now (body .entry)) (length (now (widths .entry))))) upward
-        (length (now (widths .entry))) (now (heights .entry)) (now (y .entry)) (r .up) (now (y .exit)) ⌝ }
-{
-    let mut across_below = [0u32; 256];
-    let mut across_above = [0u32; 256];
-    let mut up_below = [0u32; 256];
-    let mut up_above = [0u32; 256];
-    let mut runs_below = 0;
-    let mut runs_above = 0;
-    let mut right = length_of(widths[0]);
-    let mut top = length_of(heights[0]);
-    let mut k = 0;
-    while k + 1 < widths.len() {
-        let turn = steps::turn_of(bits::group(body, k));
-        across_below[runs_below + 1] = right;
-        across_above[runs_above + 1] = right;
-        up_below[runs_below + 1] = top;
-        up_above[runs_above + 1] = top;
-        let below = runs_below + turn.rises;
-        let above = runs_above + turn.falls;
-        let left = across_below[below];
-        let bottom = up_above[above];
-        let next = k + 1;
-        x[next] = left;
-        y[next] = bottom;
-        let beside = across_above[steps::chosen(turn.above, above, 0)];
-        let under = up_below[steps::chosen(turn.below, below, 0)];
-        right = larger(left + length_of(widths[next]), beside);
-        top = larger(bottom + length_of(heights[next]), under);
-        runs_below = below - turn.below;
-        runs_above = above - turn.above;
-        k = next;
-    }
-    x[0] = 0;
-    y[0] = 0;
-    Needed {
-        across: right,
-        up: top,
-    }
-}
-
-// A corner or a size as a wider number: a corner's end may lie beyond 32 bits.
-fn wide(length: u32) -> u64
-    ensures { λ r. ⌜ (r ≡ length) × (r ≤ 4294967295) ⌝ }
-{
-    length as u64
-}
-
-// The further of two ends.
-fn further(a: u64, b: u64) -> u64
-    ensures { λ r. ⌜ r ≡ max a b ⌝ }
-{
-    if b < a {
-        return a;
-    }
-    b
-}
-
-// Where a room ends that begins at a corner.
-fn end_of(corner: u32, size: u16) -> u64
-    ensures { λ r. ⌜ r ≡ corner + size ⌝ }
-{
-    wide(corner) + wide(length_of(size))
-}
-
-// Whether rooms with these corners honour all relations: none begins before the line at which it would start.
-fn keeps(body: &[u8], widths: &[u16], heights: &[u16], x: &[u32], y: &[u32]) -> bool
-    requires { ⌜ Walkable (now body) (length (now widths)) × (length (now heights) ≡ length (now widths)) ⌝
-        ∗ ⌜ (length (now x) ≡ length (now widths)) × (length (now y) ≡ length (now widths)) ⌝ }
-    ensures { λ r. ⌜ Tells r (HonoursAll (labelsIn (now (body .entry)) (length (now (widths .entry))))
-        (eachWay (now (widths .entry)) (now (heights .entry))) (eachWay (now (x .entry)) (now (y .entry)))) ⌝ }
-{
-    let mut across_below = [0u64; 256];
-    let mut across_above = [0u64; 256];
-    let mut up_below = [0u64; 256];
-    let mut up_above = [0u64; 256];
-    let mut runs_below = 0;
-    let mut runs_above = 0;
-    let mut right = end_of(x[0], widths[0]);
-    let mut top = end_of(y[0], heights[0]);
-    let mut k = 0;
-    while k + 1 < widths.len() {
-        let turn = steps::turn_of(bits::group(body, k));
-        across_below[runs_below + 1] = right;
-        across_above[runs_above + 1] = right;
-        up_below[runs_below + 1] = top;
-        up_above[runs_above + 1] = top;
-        let below = runs_below + turn.rises;
-        let above = runs_above + turn.falls;
-        let next = k + 1;
-        if wide(x[next]) < across_below[below] {
-            return false;
-        }
-        if wide(y[next]) < up_above[above] {
-            return false;
-        }
-        let beside = across_above[steps::chosen(turn.above, above, 0)];
-        let under = up_below[steps::chosen(turn.below, below, 0)];
-        right = further(end_of(x[next], widths[next]), beside);
-        top = further(end_of(y[next], heights[next]), under);
-        runs_below = below - turn.below;
-        runs_above = above - turn.above;
-        k = next;
-    }
-    true
-}
 
 // ---- what is refused
 
@@ -232,7 +86,7 @@ pub fn lowest_corners(
             if y.len() < n {
                 return CornersAnswer::Refused(Refusal::ShortOutput);
             }
-            lowest(&record[1..], widths, heights, x, y);
+            placing::lowest(&record[1..], widths, heights, x, y);
             CornersAnswer::Placed(n)
         }
     }
@@ -261,7 +115,7 @@ pub fn slack(
         Checked::Passed(_) => {
             let mut x = [0u32; 255];
             let mut y = [0u32; 255];
-            let needed = lowest(&record[1..], widths, heights, &mut x, &mut y);
+            let needed = placing::lowest(&record[1..], widths, heights, &mut x, &mut y);
             SlackAnswer::Slack(
                 less(outline_width, needed.across),
                 less(outline_height, needed.up),
@@ -284,7 +138,7 @@ pub fn placing_in(
     match admit(record, widths, heights, x.len(), y.len()) {
         Checked::Refused(refusal) => PlacingAnswer::Refused(refusal),
         Checked::Passed(_) => {
-            if keeps(&record[1..], widths, heights, x, y) {
+            if placing::keeps(&record[1..], widths, heights, x, y) {
                 return PlacingAnswer::Accepted;
             }
             PlacingAnswer::Refused(Refusal::BrokenRelation)

@@ -13,7 +13,7 @@ use Rattle.packing.proofs.lowest_corners.Tie as tie
 use Rattle.packing.proofs.lowest_corners.Reads as reads
 use Rattle.packing.proofs.lowest_corners.Lts as lts
 use Rattle.packing.proofs.admit.Reads as admit-reads
-use Rattle.packing.proofs.lowest.Reads as lowest-reads
+use Rattle.placing.proofs.lowest.Reads as lowest-reads
 
 abbrev claims : lts.Claims
 claims = (admit-reads.Asked, admit-reads.Learnt, lowest-reads.Asked, lowest-reads.Learnt)

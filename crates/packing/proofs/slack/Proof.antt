@@ -15,7 +15,7 @@ use Rattle.packing.proofs.slack.Reads as reads
 use Rattle.packing.proofs.slack.Lts as lts
 use Rattle.packing.proofs.admit.Reads as admit-reads
 use Rattle.packing.proofs.less.Reads as less-reads
-use Rattle.packing.proofs.lowest.Reads as lowest-reads
+use Rattle.placing.proofs.lowest.Reads as lowest-reads
 
 abbrev claims : lts.Claims
 claims = (admit-reads.Asked, admit-reads.Learnt, lowest-reads.Asked, lowest-reads.Learnt, less-reads.Asked, less-reads.Learnt)

@@ -1,4 +1,4 @@
--- `packing::lowest` meets its contract: so far each room starts where the furthest room before it ends, and the lines of all runs are known.
+-- `placing::lowest` meets its contract: so far each room starts where the furthest room before it ends, and the lines of all runs are known.
 use mathlib.Core.Path.{ap, subst, _∙_}
 use Prim.Native.Nat.{suc, _+_, _-_, _<_}
 use native.Mathlib.Omega.{arith}
@@ -7,16 +7,16 @@ use Rattle.record.specs.Triple.{Triple}
 use Rattle.record.specs.Record.{tripleIn}
 use Rattle.record.specs.TripleNumber.{tripleOf, group-triple}
 use Rattle.steps.specs.Turn.{Says}
-use Rattle.packing.proofs.Turned.{TurnFits, chosen-few}
-use Rattle.packing.proofs.Lowering.{Lowering, lowering-first, lowering-fits, left-small, bottom-small, lowering-next, lowering-end}
+use Rattle.placing.proofs.Turned.{TurnFits, chosen-few}
+use Rattle.placing.proofs.Lowering.{Lowering, lowering-first, lowering-fits, left-small, bottom-small, lowering-next, lowering-end}
 use borrow.Author.Needs.{needs}
-use Rattle.packing.proofs.lowest.Statement.{statement}
-use Rattle.packing.proofs.lowest.Tie as tie
-use Rattle.packing.proofs.lowest.Reads as reads
-use Rattle.packing.proofs.lowest.Lts as lts
+use Rattle.placing.proofs.lowest.Statement.{statement}
+use Rattle.placing.proofs.lowest.Tie as tie
+use Rattle.placing.proofs.lowest.Reads as reads
+use Rattle.placing.proofs.lowest.Lts as lts
 use Rattle.bits.proofs.group.Reads as group-reads
-use Rattle.packing.proofs.larger.Reads as larger-reads
-use Rattle.packing.proofs.length_of.Reads as length-of-reads
+use Rattle.placing.proofs.larger.Reads as larger-reads
+use Rattle.placing.proofs.length_of.Reads as length-of-reads
 use Rattle.steps.proofs.chosen.Reads as chosen-reads
 use Rattle.steps.proofs.turn_of.Reads as turn-of-reads
 

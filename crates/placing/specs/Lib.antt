@@ -1,0 +1,2 @@
+-- What the walks give
+pub mod Along
