@@ -5,9 +5,9 @@ use crate::help::{expect_refused, REFUSED};
 use compare::damage::{leaves_spare_bits, Damage};
 use compare::{each_times, Tally};
 use reference::cases::sizes::{some_sizes, Placing, SizedRecord};
-use reference::cases::walk::{biased_list, list_in_turn, mostly_small_count};
+use reference::cases::walk::{any_record, biased_list, list_in_turn};
 use reference::cases::Random;
-use reference::{record_of, Refusal, TRIPLES};
+use reference::{Refusal, TRIPLES};
 
 /// What is wrong with the lists besides: nothing, a length, or a size of 0.
 #[derive(Clone, Copy, Debug)]
@@ -119,17 +119,10 @@ fn any_triples() {
     const RECORDS: usize = 6_000;
     let name = "any triples, with sizes";
     let tally = Tally::of_rounds(name, 593, 0..RECORDS, |tally, random, round| {
-        let n = mostly_small_count(random);
-        // All triples, or only a few of them.
-        let kinds = random.between(1, 3);
-        let choices: Vec<_> = match round % 2 {
-            0 => TRIPLES.to_vec(),
-            _ => (0..kinds).map(|_| random.pick(&TRIPLES)).collect(),
-        };
-        let triples: Vec<_> = (1..n).map(|_| random.pick(&choices)).collect();
-        let count = usize::from(n);
-        let (widths, heights) = (some_sizes(count, random), some_sizes(count, random));
-        let sized = SizedRecord::new(record_of(n, &triples), widths, heights);
+        let record = any_record(round, random);
+        let n = usize::from(record[0]);
+        let (widths, heights) = (some_sizes(n, random), some_sizes(n, random));
+        let sized = SizedRecord::new(record, widths, heights);
         compare_three(tally, &sized, &Placing::staircase(&sized));
     });
     tally.expect_often(RECORDS / 10, &[Refusal::RunMissing, Refusal::RunsLeft]);

@@ -4,9 +4,9 @@
 use compare::damage::{leaves_spare_bits, Damage};
 use compare::{each_times, GivenTree, Tally};
 use reference::cases::slicing::{SlicingPlan, PINWHEELS};
-use reference::cases::walk::{mostly_small_count, Walked};
+use reference::cases::walk::{any_record, Walked};
 use reference::cases::Random;
-use reference::{record_of, Refusal, TRIPLES};
+use reference::{Refusal, TRIPLES};
 
 /// A slicing plan with spare bits, and as many rooms as damage needs.
 fn some_plan(random: &mut Random) -> SlicingPlan {
@@ -101,15 +101,7 @@ fn any_triples() {
     const RECORDS: usize = 12_000;
     let name = "any triples";
     let tally = Tally::of_rounds(name, 324, 0..RECORDS, |tally, random, round| {
-        let n = mostly_small_count(random);
-        // All triples, or only a few of them.
-        let kinds = random.between(1, 3);
-        let choices: Vec<_> = match round % 2 {
-            0 => TRIPLES.to_vec(),
-            _ => (0..kinds).map(|_| random.pick(&TRIPLES)).collect(),
-        };
-        let triples: Vec<_> = (1..n).map(|_| random.pick(&choices)).collect();
-        let given = GivenTree::new(record_of(n, &triples));
+        let given = GivenTree::new(any_record(round, random));
         let _ = tally.tree(&given, random.pick(&[0, 5, 7, 10, 763]));
     });
     let often = [Refusal::RunMissing, Refusal::RunsLeft, Refusal::SliceShort];

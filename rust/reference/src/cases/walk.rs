@@ -91,6 +91,19 @@ pub fn mostly_small_count(random: &mut Random) -> u8 {
     random.pick(&[1, 2, 3, 4, 5, 6, 7, 9, 12, 40, 254, 255])
 }
 
+/// A record of any triples, which need not be a walk: in one round all kinds, in
+/// the next one only a few of them.
+pub fn any_record(round: usize, random: &mut Random) -> Vec<u8> {
+    let n = mostly_small_count(random);
+    let kinds = random.between(1, 3);
+    let choices: Vec<_> = match round % 2 {
+        0 => TRIPLES.to_vec(),
+        _ => (0..kinds).map(|_| random.pick(&TRIPLES)).collect(),
+    };
+    let triples: Vec<_> = (1..n).map(|_| random.pick(&choices)).collect();
+    record_of(n, &triples)
+}
+
 /// In one round a [`random_list`], in the next one a [`biased_list`].
 pub fn list_in_turn(n: usize, round: usize, random: &mut Random) -> Walked {
     match round % 2 {
