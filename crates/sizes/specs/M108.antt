@@ -104,7 +104,7 @@ module _ (labels : List ℕ) (sizes : EachWay (List ℕ)) where
         | inr h ↦ omega (arith, honours across i ai (omega arith) j aj (omega arith) (l, h))
       ]
 
-  -- so do those at the lowest corners
+  -- so those at the lowest corners share none
   pub m108-lowest-share-no-square : EachOnce (labelAt labels) (length labels) → (i j x y : ℕ) → 1 ≤ i → i ≤ length labels → 1 ≤ j → j ≤ length labels
       → PlacedCovers sizes (lowest labels sizes) i x y → PlacedCovers sizes (lowest labels sizes) j x y → i ≡ j
   m108-lowest-share-no-square once = m108-honouring-share-no-square once (lowest labels sizes) m108-lowest-honour
