@@ -8,6 +8,7 @@ use native.Mathlib.Omega.{arith}
 use Rattle.finite.specs.Decide.{stable}
 use Rattle.record.specs.declared.Refusal.the-variants as refusal
 use Rattle.record.specs.Read.{kindOf}
+use Rattle.record.specs.Checked.{Readable}
 use Rattle.judging.specs.Judge.{Accepts}
 use Rattle.sizes.specs.Direction.{Direction}
 use Rattle.sizes.specs.Lists.{EachWay}
@@ -38,6 +39,6 @@ module _ {bytes : List ℕ} {n fallen : ℕ} (a : Accepts bytes n fallen) (sizes
 pub same-lengths : {n : ℕ} {lengths : EachWay ℕ} → ¬ OtherLength n lengths → (way : Direction) → lengths way ≡ n
 same-lengths {n} {lengths} h way = stable (ℕ-discrete (lengths way) n) (λ d. h (way, d))
 
--- an accepted record has a room
-pub some-rooms : {bytes : List ℕ} {n fallen : ℕ} → Accepts bytes n fallen → 1 ≤ n
-some-rooms {bytes} a = let some : ¬ (kindOf bytes ≡ 0) = λ e. a .readable .kind (inr e) in omega (arith, a .rooms-are)
+-- a record that is not refused has a room
+pub some-rooms : {bytes : List ℕ} {n : ℕ} → Readable bytes → n ≡ kindOf bytes → 1 ≤ n
+some-rooms {bytes} readable rooms-are = let some : ¬ (kindOf bytes ≡ 0) = λ e. readable .kind (inr e) in omega arith

@@ -31,7 +31,7 @@ use Rattle.sizes.specs.declared.SlackAnswer.the-variants as slack
 use Rattle.sizes.specs.declared.PlacingAnswer.the-variants as placing
 use Rattle.packing.specs.Admitted.{OtherLengths, Admitted}
 use Rattle.placing.specs.Along.{labelsIn, Walkable, LowestFor}
-use Rattle.packing.proofs.Admitted.{same-lengths}
+use Rattle.packing.proofs.Admitted.{same-lengths, some-rooms}
 
 -- ---- admitted: there is a size for each room, and the body can be walked
 module _ {bytes : List ℕ} {n : ℕ} {sizes : EachWay (List ℕ)} {corners : EachWay ℕ} (a : Admitted bytes n sizes corners) where
@@ -50,7 +50,7 @@ module _ {bytes : List ℕ} {n : ℕ} {sizes : EachWay (List ℕ)} {corners : Ea
   body : Body bytes n
   body = let r = a .sized .readable in record {
     kind = a .kind;
-    some = let some : ¬ (kindOf bytes ≡ 0) = λ e. r .kind (inr e) in omega (arith, a .kind);
+    some = some-rooms r (a .kind);
     few = a .few;
     has-kind = r .kind;
     long = r .long;

@@ -15,7 +15,7 @@ use Rattle.sizes.specs.Lists.{numberAt}
 abbrev pub labelsIn : (body : List ℕ) (n : ℕ) → List ℕ
 labelsIn body n = decode (tripleIn body) n
 
--- a body of n triples that are accepted
+-- the body of a record of n rooms whose triples are accepted
 pub record Walkable (body : List ℕ) (n : ℕ) : Type 0 where
   pub some : 1 ≤ n
   pub few : n ≤ 255

@@ -25,7 +25,7 @@ module _ (labels : List ℕ) (way : Direction) (sizes : List ℕ) where
   corner-is zero a b = absurd (omega arith)
   corner-is (suc i) a b = getD-table (λ i. startAt f way (numberAt sizes) n (suc i)) n i 0 (omega arith)
 
-  pub corners-length : length (lowestCorners labels way sizes) ≡ length labels
+  corners-length : length (lowestCorners labels way sizes) ≡ length labels
   unfolding lowestCorners
   corners-length = length-table _ n
 

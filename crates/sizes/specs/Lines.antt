@@ -14,7 +14,7 @@ use Rattle.sizes.specs.Lowest.{furthestBefore}
 use Rattle.sizes.specs.LowestLaws.{furthest-ge, furthest-smallest}
 use Rattle.sizes.specs.Behind.{Behind, LastBefore, EndsWith, before→behind, behind→before, behind→cases, behind-itself, behind-end}
 
--- v is the furthest end of some rooms, 0 where there are none: each ends there or earlier, and all ends that are bounded bound it
+-- v is the furthest end of some rooms, 0 where there are none: each ends there or earlier, and no number below v bounds all ends
 pub record Furthest (Has : ℕ → Type 0) (end : ℕ → ℕ) (v : ℕ) : Type 0 where
   pub reached : (i : ℕ) → Has i → end i ≤ v
   pub no-further : (bound : ℕ) → ((i : ℕ) → Has i → end i ≤ bound) → v ≤ bound

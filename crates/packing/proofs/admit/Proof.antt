@@ -70,7 +70,7 @@ returns-2 c =
 zero-size-requires : tie.Need-zero-size-requires
 zero-size-requires c κs =
     let k = c .before .before .before .before in
-    let some = some-rooms (accepted k) in
+    let some = some-rooms (accepted k .readable) (accepted k .rooms-are) in
     let same = same-lengths (same-sizes (c .before .before)) in
     (omega (arith, some, same across), omega (arith, some, same upward))
 

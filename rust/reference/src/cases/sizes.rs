@@ -2,6 +2,8 @@
 
 use super::walk::Walked;
 use super::{every_list, Random};
+#[cfg(test)]
+use crate::{placing_in, Refusal};
 use crate::{plan_of, Plan, Side};
 
 /// A record with the sizes of its rooms.
@@ -42,6 +44,18 @@ impl SizedRecord {
         let n = plan.labels.len();
         let (widths, heights) = (some_sizes(n, random), some_sizes(n, random));
         Self::new(plan.record(), widths, heights)
+    }
+
+    /// What the definitions say to a placing.
+    #[cfg(test)]
+    pub(crate) fn judged(&self, placing: &Placing) -> Result<(), Refusal> {
+        placing_in(
+            &self.record,
+            &self.widths,
+            &self.heights,
+            &placing.x,
+            &placing.y,
+        )
     }
 
     /// The plan that an accepted record stands for.
@@ -190,18 +204,8 @@ mod tests {
     use super::{every_sizes, some_sizes, Placing, SizedRecord};
     use crate::cases::walk::{list_in_turn, some_count};
     use crate::cases::Random;
-    use crate::{placing_in, Refusal};
+    use crate::Refusal;
     use std::collections::HashSet;
-
-    /// What the definitions say to a placing.
-    fn judged(sized: &SizedRecord, placing: &Placing) -> Result<(), Refusal> {
-        let SizedRecord {
-            record,
-            widths,
-            heights,
-        } = sized;
-        placing_in(record, widths, heights, &placing.x, &placing.y)
-    }
 
     #[test]
     fn placings_honour_the_relations_until_one_is_broken() {
@@ -210,13 +214,13 @@ mod tests {
             let n = some_count(&mut random);
             let plan = list_in_turn(n, round, &mut random);
             let sized = SizedRecord::some(&plan, &mut random);
-            assert_eq!(judged(&sized, &Placing::staircase(&sized)), Ok(()));
+            assert_eq!(sized.judged(&Placing::staircase(&sized)), Ok(()));
             let mut placing = Placing::some(&sized, &mut random);
-            assert_eq!(judged(&sized, &placing), Ok(()), "{sized:?} {placing:?}");
+            assert_eq!(sized.judged(&placing), Ok(()), "{sized:?} {placing:?}");
             if n > 1 {
                 placing.break_a_relation(&sized, &mut random);
                 let broken = Err(Refusal::RelationBroken);
-                assert_eq!(judged(&sized, &placing), broken, "{sized:?} {placing:?}");
+                assert_eq!(sized.judged(&placing), broken, "{sized:?} {placing:?}");
             }
         }
     }

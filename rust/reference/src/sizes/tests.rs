@@ -19,16 +19,6 @@ fn corners(sized: &SizedRecord) -> Placing {
     Placing { x, y }
 }
 
-/// What is said to a placing.
-fn placed(sized: &SizedRecord, placing: &Placing) -> Result<(), Refusal> {
-    let SizedRecord {
-        record,
-        widths,
-        heights,
-    } = sized;
-    placing_in(record, widths, heights, &placing.x, &placing.y)
-}
-
 /// The slack in an outline.
 fn slack_in(sized: &SizedRecord, width: u32, height: u32) -> Result<(i64, i64), Refusal> {
     slack(&sized.record, &sized.widths, &sized.heights, width, height)
@@ -135,7 +125,7 @@ fn drawings_are_their_own_lowest_corners() {
         let sized = sized_rooms(&walked.record(), &plan.rooms);
         let own = corners_of(&plan.rooms);
         assert_eq!(corners(&sized), own, "{walked:?}");
-        assert_eq!(placed(&sized, &own), Ok(()), "{walked:?}");
+        assert_eq!(sized.judged(&own), Ok(()), "{walked:?}");
         let n = plan.rooms.len() as u32;
         assert_eq!(slack_in(&sized, n, n), Ok((0, 0)), "{walked:?}");
     });
@@ -225,10 +215,10 @@ fn placings_are_no_lower_than_the_lowest_corners_and_these_are_accepted() {
         let plan = list_in_turn(n, round, &mut random);
         let sized = SizedRecord::some(&plan, &mut random);
         let lowest = corners(&sized);
-        assert_eq!(placed(&sized, &lowest), Ok(()), "{sized:?}");
+        assert_eq!(sized.judged(&lowest), Ok(()), "{sized:?}");
         let some = Placing::some(&sized, &mut random);
         for higher in [some, Placing::staircase(&sized)] {
-            assert_eq!(placed(&sized, &higher), Ok(()), "{sized:?}");
+            assert_eq!(sized.judged(&higher), Ok(()), "{sized:?}");
             let no_lower = |low: &[u32], high: &[u32]| low.iter().zip(high).all(|(l, h)| l <= h);
             assert!(no_lower(&lowest.x, &higher.x) && no_lower(&lowest.y, &higher.y));
         }
@@ -259,10 +249,10 @@ fn rooms_may_touch_but_not_overlap_and_sums_do_not_wrap() {
         let other = || vec![u32::MAX, 0];
         let row = SizedRecord::new([0x02, 0x40], sizes, [65_535; 2]);
         let (x, y) = (starts.clone(), other());
-        assert_eq!(placed(&row, &Placing { x, y }), expected, "{starts:?}");
+        assert_eq!(row.judged(&Placing { x, y }), expected, "{starts:?}");
         let pile = SizedRecord::new([0x02, 0xa0], [65_535; 2], sizes);
         let (x, y) = (other(), starts.clone());
-        assert_eq!(placed(&pile, &Placing { x, y }), expected, "{starts:?}");
+        assert_eq!(pile.judged(&Placing { x, y }), expected, "{starts:?}");
     }
 }
 
@@ -332,7 +322,7 @@ fn a_size_of_0_anywhere_is_refused() {
             for (widths, heights) in [(&sizes, &ones), (&ones, &sizes)] {
                 let sized = SizedRecord::new(&record[..], &widths[..], &heights[..]);
                 let placing = Placing::staircase(&sized);
-                assert_eq!(placed(&sized, &placing), Err(Refusal::ZeroSize));
+                assert_eq!(sized.judged(&placing), Err(Refusal::ZeroSize));
                 assert_eq!(slack_in(&sized, 1, 1), Err(Refusal::ZeroSize));
             }
         }
