@@ -6,6 +6,7 @@ pub mod Corners
 pub mod InnerLine
 pub mod Within
 -- Theorems, and what they rest on
+pub mod SideFacts
 pub mod Nearest
 pub mod Walked
 pub mod Squares

@@ -12,3 +12,4 @@ pub mod Fill
 pub mod Put
 pub mod Copied
 pub mod Every
+pub mod BitTable

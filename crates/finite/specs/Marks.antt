@@ -1,10 +1,10 @@
 -- A bit that says whether a statement holds, as a number; and a loop that looks at the numbers below n in turn: what one more number does
 -- to whether some number has been found.
-use mathlib.Core.Path.{_≡_, refl, subst}
+use mathlib.Core.Path.{_≡_, refl, sym, subst, _∙_}
 use mathlib.Core.Logic.{_⊎_, inl, inr}
 use Prim.Native.Nat.{ℕ, _+_, _*_, _≤_, zero-le}
 use native.Mathlib.Omega.{arith}
-use lib.Bits.{bitOr}
+use lib.Bits.{bitAnd, bitOr}
 use lib.Dec.{eqb}
 use Rattle.finite.specs.Decide.{Tells, eq-or-ne, tells-equal, tells-iff}
 use Rattle.finite.specs.Search.{Some}
@@ -22,6 +22,27 @@ pub marks-both : {A B : Type 0} {a b : ℕ} → Marks a A → Marks b B → Mark
 marks-both (inl (e, h)) (inl (f, g)) = inl (rw (e, f), (h, g))
 marks-both (inl (e, h)) (inr (f, g)) = inr (rw (e, f), λ (x, y). g y)
 marks-both {b = b} (inr (e, h)) m = inr (rw e (omega arith), λ (x, y). h x)
+
+-- so does the bit that two have in common
+pub marks-and : {A B : Type 0} {a b : ℕ} → Marks a A → Marks b B → Marks (bitAnd a b) (A × B)
+marks-and (inl (e, h)) (inl (f, g)) = inl (λ i. bitAnd (e i) (f i), (h, g))
+marks-and (inl (e, h)) (inr (f, g)) = inr (λ i. bitAnd (e i) (f i), λ (x, y). g y)
+marks-and (inr (e, h)) (inl (f, g)) = inr (λ i. bitAnd (e i) (f i), λ (x, y). h x)
+marks-and (inr (e, h)) (inr (f, g)) = inr (λ i. bitAnd (e i) (f i), λ (x, y). h x)
+
+-- what a bit marks, where it is known whether that holds
+pub marks-yes : {A : Type 0} {a : ℕ} → Marks a A → A → a ≡ 1
+marks-yes (inl (e, h)) x = e
+marks-yes (inr (e, h)) x = absurd (h x)
+
+pub marks-no : {A : Type 0} {a : ℕ} → Marks a A → ¬ A → a ≡ 0
+marks-no (inl (e, h)) x = absurd (x h)
+marks-no (inr (e, h)) x = e
+
+-- two bits that mark the same are the same
+pub marks-once : {A : Type 0} {a b : ℕ} → Marks a A → Marks b A → a ≡ b
+marks-once (inl (e, h)) m = e ∙ sym (marks-yes m h)
+marks-once (inr (e, h)) m = e ∙ sym (marks-no m h)
 
 -- a bit marks what holds just where the other does
 pub marks-same : {A B : Type 0} {a : ℕ} → Marks a A → (A → B) → (B → A) → Marks a B

@@ -1,5 +1,4 @@
 -- What the functions speak of
 pub mod Twice
--- A table of bits, and what they rest on
-pub mod BitTable
+-- What they rest on
 pub mod Seen

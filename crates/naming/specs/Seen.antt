@@ -10,7 +10,7 @@ use lib.ListN.{length}
 use Rattle.finite.specs.Decide.{eq-or-ne}
 use Rattle.finite.specs.Search.{Some}
 use Rattle.finite.specs.Marks.{Marks, marks-same}
-use Rattle.naming.specs.BitTable.{bitOf, withBit, bit-put, bit-kept}
+use Rattle.finite.specs.BitTable.{bitOf, withBit, bit-put, bit-kept}
 
 -- v is the name of one of the first i rooms
 abbrev pub SeenBefore : (name : ℕ → ℕ) (i v : ℕ) → Type 0

@@ -6,7 +6,7 @@ ghost use Rattle.finite.specs.Decide.{Tells};
 ghost use Rattle.finite.specs.Fill.{filled};
 ghost use Rattle.finite.specs.Marks.{Marks};
 ghost use Rattle.naming.specs.Twice.{Twice, Again};
-ghost use Rattle.naming.specs.BitTable.{bitOf, withBit};
+ghost use Rattle.finite.specs.BitTable.{bitOf, withBit};
 ghost use Rattle.naming.specs.Seen.{bitFor};
 
 // ---- pair by pair

@@ -38,7 +38,3 @@ module _ {bytes : List ℕ} {n fallen : ℕ} (a : Accepts bytes n fallen) (sizes
 -- lists of length n
 pub same-lengths : {n : ℕ} {lengths : EachWay ℕ} → ¬ OtherLength n lengths → (way : Direction) → lengths way ≡ n
 same-lengths {n} {lengths} h way = stable (ℕ-discrete (lengths way) n) (λ d. h (way, d))
-
--- a record that is not refused has a room
-pub some-rooms : {bytes : List ℕ} {n : ℕ} → Readable bytes → n ≡ kindOf bytes → 1 ≤ n
-some-rooms {bytes} readable rooms-are = let some : ¬ (kindOf bytes ≡ 0) = λ e. readable .kind (inr e) in omega arith

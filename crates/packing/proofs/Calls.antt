@@ -11,15 +11,11 @@ use lib.ListN.{length, drop}
 use Rattle.finite.specs.Decide.{Tells}
 use Rattle.finite.specs.Table.{table}
 use Rattle.record.specs.Labels.{labelAt}
-use Rattle.record.specs.Walk.{Accepted}
-use Rattle.record.specs.Record.{tripleIn}
-use Rattle.record.specs.Decode.{decode}
 use Rattle.record.specs.Read.{kindOf, labelsOf}
-use Rattle.record.specs.Demand2Read.{readable-accepted, readable-only-list}
+use Rattle.record.specs.Demand2Read.{readable-only-list}
 use Rattle.record.specs.declared.Refusal.{Refusal}
 use Rattle.record.specs.declared.Refusal.the-variants as refusal
-use Rattle.judging.specs.Judge.{Body}
-use Rattle.judging.specs.Passed.{tail, body-is, some-bytes, tail-length}
+use Rattle.judging.specs.Passed.{tail}
 use Rattle.sizes.specs.Direction.{Direction, across, upward}
 use Rattle.sizes.specs.Lowest.{startAt, neededLength}
 use Rattle.sizes.specs.Lists.{EachWay, each-way, numberAt, lowestCorners, slackOf, HonoursAll}
@@ -30,8 +26,9 @@ use Rattle.sizes.specs.declared.CornersAnswer.the-variants as corners
 use Rattle.sizes.specs.declared.SlackAnswer.the-variants as slack
 use Rattle.sizes.specs.declared.PlacingAnswer.the-variants as placing
 use Rattle.packing.specs.Admitted.{OtherLengths, Admitted}
-use Rattle.placing.specs.Along.{labelsIn, Walkable, LowestFor}
-use Rattle.packing.proofs.Admitted.{same-lengths, some-rooms}
+use Rattle.judging.specs.Walkable.{labelsIn, Walkable, readable-has-bytes, readable-walkable, labels-in-body}
+use Rattle.placing.specs.Along.{LowestFor}
+use Rattle.packing.proofs.Admitted.{same-lengths}
 
 -- ---- admitted: there is a size for each room, and the body can be walked
 module _ {bytes : List ℕ} {n : ℕ} {sizes : EachWay (List ℕ)} {corners : EachWay ℕ} (a : Admitted bytes n sizes corners) where
@@ -47,33 +44,15 @@ module _ {bytes : List ℕ} {n : ℕ} {sizes : EachWay (List ℕ)} {corners : Ea
   pub corner-is : (way : Direction) → corners way ≡ n
   corner-is way = same-lengths (λ h. a .sized .same-length (inr h)) way ∙ sym (a .kind)
 
-  body : Body bytes n
-  body = let r = a .sized .readable in record {
-    kind = a .kind;
-    some = some-rooms r (a .kind);
-    few = a .few;
-    has-kind = r .kind;
-    long = r .long;
-    short = r .short;
-    spare = r .spare;
-  }
-
   pub has-bytes : 1 ≤ length bytes
-  has-bytes = some-bytes body
+  has-bytes = readable-has-bytes (a .sized .readable) (a .kind) (a .few)
 
   pub walkable : {m : ℕ} → m ≡ n → Walkable (tail bytes) m
-  walkable {m} e = subst (Walkable (tail bytes)) (sym e) record {
-    some = body .some;
-    few = a .few;
-    long = tail-length body;
-    accepted = subst (λ (body : List ℕ). Accepted (tripleIn body) n) (sym (body-is bytes))
-        (subst (Accepted (tripleIn (drop 1 bytes))) (sym (a .kind)) (readable-accepted bytes (a .sized .readable)));
-  }
+  walkable e = subst (Walkable (tail bytes)) (sym e) (readable-walkable (a .sized .readable) (a .kind) (a .few))
 
   -- its labels are the record's
   labels-are : {m : ℕ} → m ≡ n → labelsIn (tail bytes) m ≡ labelsOf bytes
-  unfolding labelsOf
-  labels-are e = λ i. decode (tripleIn (body-is bytes i)) ((e ∙ a .kind) i)
+  labels-are e = labels-in-body bytes (e ∙ a .kind)
 
   count-is : {m : ℕ} → m ≡ n → m ≡ length (labelsOf bytes)
   count-is e = e ∙ a .kind ∙ sym (readable-only-list bytes (a .sized .readable) .size)

@@ -17,9 +17,9 @@ use Rattle.sizes.specs.Lowest.{furthestBefore}
 use Rattle.sizes.specs.LowestLaws.{before→earlier, honours→furthest, furthest→honours, furthest-smallest}
 use Rattle.sizes.specs.Placing.{Honours}
 use Rattle.sizes.specs.Lists.{eachWay, numberAt, HonoursAll}
-use Rattle.placing.specs.Along.{labelsIn, Walkable}
-use Rattle.placing.proofs.OneWay.{Walks, accepted-walks}
-use Rattle.placing.proofs.Turned.{TurnFits, Turned, turned-first, turn-fits, turned-next, left-is, bottom-is}
+use Rattle.judging.specs.Walkable.{labelsIn, Walkable}
+use Rattle.sizes.specs.OneWay.{Walks, accepted-walks}
+use Rattle.sizes.specs.Turned.{TurnFits, Turned, turned-first, turn-fits, turned-next, left-is, bottom-is}
 use Rattle.placing.proofs.Lowering.{label, sizeOf}
 
 module _ (body widths heights xs ys : List ℕ) where

@@ -16,9 +16,10 @@ use Rattle.sizes.specs.Lowest.{startAt, neededLength}
 use Rattle.sizes.specs.LowestLaws.{starts-at-furthest-end, start-small, first-start}
 use Rattle.sizes.specs.Lines.{LineAt, line-of-all}
 use Rattle.sizes.specs.Lists.{eachWay, numberAt}
-use Rattle.placing.specs.Along.{labelsIn, Walkable, LowestFor}
-use Rattle.placing.proofs.OneWay.{Walks, accepted-walks}
-use Rattle.placing.proofs.Turned.{TurnFits, Turned, turned-first, turn-fits, turned-next, left-is, bottom-is}
+use Rattle.judging.specs.Walkable.{labelsIn, Walkable}
+use Rattle.placing.specs.Along.{LowestFor}
+use Rattle.sizes.specs.OneWay.{Walks, accepted-walks}
+use Rattle.sizes.specs.Turned.{TurnFits, Turned, turned-first, turn-fits, turned-next, left-is, bottom-is}
 
 module _ (body widths heights : List ℕ) where
   abbrev pub rooms : ℕ

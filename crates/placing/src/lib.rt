@@ -7,7 +7,8 @@ ghost use Rattle.finite.specs.Decide.{Tells};
 ghost use Rattle.record.specs.Labels.{labelAt};
 ghost use Rattle.sizes.specs.Direction.{across, upward};
 ghost use Rattle.sizes.specs.Lists.{eachWay, HonoursAll};
-ghost use Rattle.placing.specs.Along.{labelsIn, Walkable, LowestFor};
+ghost use Rattle.judging.specs.Walkable.{labelsIn, Walkable};
+ghost use Rattle.placing.specs.Along.{LowestFor};
 
 // A size as a length.
 fn length_of(size: u16) -> u32

@@ -3,10 +3,9 @@
 -- exchanged it is the opposite side, equally direct, equally touching.
 use mathlib.Core.Bool.{Bool, true, false}
 use mathlib.Core.List.{List}
-use mathlib.Core.Logic.{_≢_, inl, inr, ⊎-swap, ite, _↔_}
-use mathlib.Core.Path.{_≡_, refl, sym, ap, _∙_}
+use mathlib.Core.Logic.{_≢_, inl, inr, ⊎-swap, _↔_}
+use mathlib.Core.Path.{_≡_, sym, ap, _∙_}
 use Prim.Native.Nat.{ℕ, _-_, _≤_, _<_}
-use native.Mathlib.Decide.{decLt}
 use native.Mathlib.Omega.{arith}
 use lib.ListN.{length}
 use Rattle.finite.specs.Decide.{Tells, tells-iff, tells-same, told-true, told-false, holds, holds-tells}
@@ -14,9 +13,9 @@ use Rattle.record.specs.Labels.{labelAt}
 use Rattle.record.specs.Read.{kindOf, labelsOf}
 use Rattle.record.specs.Demand2Read.{readable-only-list}
 use Rattle.drawing.specs.declared.Room.{Room}
-use Rattle.drawing.specs.declared.Side.the-variants.{Left, Right, Above, Below}
 use Rattle.drawing.specs.declared.Relation.{Relation}
-use Rattle.drawing.specs.Side.{sideOf, converse}
+use Rattle.drawing.specs.Side.{converse}
+use Rattle.drawing.specs.SideFacts.{side-exchanged}
 use Rattle.drawing.specs.Drawing.{drawingOf}
 use Rattle.rooms.specs.Causes.{AcceptedRooms}
 use Rattle.rooms.specs.LabelList.{positionOf, labelList, recordOfRooms}
@@ -99,20 +98,6 @@ m102-direct-answer-touches bytes first second = go (demand1-question-cause bytes
 abbrev pub exchanged : QuestionAnswer → QuestionAnswer
 exchanged (Related relation touch) = Related (record { side = converse (relation .side); direct = relation .direct }) touch
 exchanged (Refused refusal) = Refused refusal
-
-side-exchanged : (f : ℕ → ℕ) (i j : ℕ) → i ≢ j → sideOf f j i ≡ converse (sideOf f i j)
-unfolding sideOf
-side-exchanged f i j differ = go (decLt j i) (decLt i j) (decLt (f j) (f i)) (decLt (f i) (f j))
-  where
-    go : (after : Dec (j < i)) (before : Dec (i < j)) (larger : Dec (f j < f i)) (smaller : Dec (f i < f j))
-        → ite after (ite larger Left Below) (ite smaller Right Above)
-        ≡ converse (ite before (ite smaller Left Below) (ite larger Right Above))
-    go (yes p) (yes q) larger smaller = absurd (omega arith)
-    go (yes p) (no q) (yes l) smaller = refl
-    go (yes p) (no q) (no l) smaller = refl
-    go (no p) (yes q) larger (yes l) = refl
-    go (no p) (yes q) larger (no l) = refl
-    go (no p) (no q) larger smaller = absurd (omega (arith, differ))
 
 pub m102-question-exchanged : (bytes : List ℕ) (first second : ℕ)
     → questionAnswer bytes second first ≡ exchanged (questionAnswer bytes first second)

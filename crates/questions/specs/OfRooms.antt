@@ -1,20 +1,19 @@
 -- The question asked by the record of an accepted room list and the positions of two of its rooms: it answers from the label list.
 use mathlib.Core.List.{List}
 use mathlib.Core.Logic.{_≢_, _⊎_, inl, inr}
-use mathlib.Core.Path.{_≡_, refl, sym, ap, subst}
+use mathlib.Core.Path.{_≡_, refl, sym, subst}
 use Prim.Native.Nat.{ℕ, _<_}
 use native.Mathlib.Omega.{arith}
 use lib.ListN.{length}
 use Rattle.finite.specs.Decide.{holds, holds-tells}
 use Rattle.record.specs.Read.{kindOf, labelsOf}
 use Rattle.record.specs.Checked.{Readable}
-use Rattle.record.specs.Demand2Read.{readable-only-list}
 use Rattle.drawing.specs.declared.Room.{Room}
 use Rattle.rooms.specs.Causes.{AcceptedRooms}
 use Rattle.rooms.specs.LabelList.{positionOf, labelList, recordOfRooms}
 use Rattle.rooms.specs.Ranks.{OneToN}
 use Rattle.rooms.specs.LabelFacts.{positions-are-1-to-n}
-use Rattle.rooms.specs.Demand3.{BaxterOf, rooms-give-baxter, record-of-rooms-readable, label-list-back}
+use Rattle.rooms.specs.Demand3.{record-of-rooms-readable, label-list-back, kind-of-rooms}
 use Rattle.contacts.specs.Direct.{relationOf, dec-positions-direct}
 use Rattle.contacts.specs.DecideTouches.{dec-positions-touch}
 use Rattle.questions.specs.Answer.{Outside, questionAnswer}
@@ -47,14 +46,11 @@ question-of-rooms rooms accepted a b ha hb differ =
     readable : Readable bytes
     readable = record-of-rooms-readable rooms accepted
 
-    of : BaxterOf rooms
-    of = rooms-give-baxter rooms accepted
-
     labels : labelList rooms ≡ labelsOf bytes
     labels = label-list-back rooms accepted
 
     kind : kindOf bytes ≡ length rooms
-    kind = omega (arith, readable-only-list bytes readable .size, ap length labels, of .size)
+    kind = kind-of-rooms rooms accepted
 
     at : OneToN (positionOf rooms) (length rooms)
     at = positions-are-1-to-n rooms accepted

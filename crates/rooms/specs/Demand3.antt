@@ -1,6 +1,6 @@
 -- Demand 3: "Any two accepted room lists get the same record, byte for byte, exactly when the two floorplans are equivalent. The
 -- reading of any bytes at all is accepted exactly when they are the record of some accepted room list."
-use mathlib.Core.Path.{_≡_, refl, ap, subst, _∙_}
+use mathlib.Core.Path.{_≡_, refl, sym, ap, subst, _∙_}
 use mathlib.Core.Logic.{_≢_, inl, inr, _↔_}
 use mathlib.Core.List.{List}
 use Prim.Native.Nat.{ℕ, _≤_, _<_}
@@ -16,7 +16,7 @@ use Rattle.record.specs.Record.{recordOf}
 use Rattle.record.specs.Read.{kindOf, labelsOf}
 use Rattle.record.specs.Checked.{Readable}
 use Rattle.record.specs.Demand2.{demand2-same-record}
-use Rattle.record.specs.Demand2Read.{record-of→labels-of, demand2-read-only-list, demand2-written-read}
+use Rattle.record.specs.Demand2Read.{record-of→labels-of, demand2-read-only-list, demand2-written-read, readable-only-list}
 use Rattle.drawing.specs.declared.Room.{Room}
 use Rattle.drawing.specs.Drawing.{drawingOf}
 use Rattle.rooms.specs.Outline.{SixteenBits}
@@ -77,6 +77,12 @@ pub label-list-back : (rooms : List Room) → AcceptedRooms rooms → labelList 
 unfolding recordOfRooms
 label-list-back rooms accepted = record-of→labels-of (recordOfRooms rooms) (record-of-rooms-readable rooms accepted) (labelList rooms)
     (rooms-give-baxter rooms accepted .baxter) refl
+
+-- and is of as many rooms as the list
+pub kind-of-rooms : (rooms : List Room) → AcceptedRooms rooms → kindOf (recordOfRooms rooms) ≡ length rooms
+kind-of-rooms rooms accepted =
+    sym (readable-only-list (recordOfRooms rooms) (record-of-rooms-readable rooms accepted) .size)
+    ∙ ap length (sym (label-list-back rooms accepted)) ∙ rooms-give-baxter rooms accepted .size
 
 -- the grid drawing of a record's labels is a room list that has this record
 pub drawing-of-record : (bytes : List ℕ) → Bytes bytes → Readable bytes

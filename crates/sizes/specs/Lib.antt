@@ -17,5 +17,9 @@ pub mod SideFacts
 pub mod OfRooms
 pub mod Behind
 pub mod Lines
+-- The walk along a record's triples
+pub mod Stacked
+pub mod OneWay
+pub mod Turned
 -- Worked examples
 pub mod Worked

@@ -14,11 +14,11 @@ use Rattle.record.specs.Barred.{Baxter}
 use Rattle.record.specs.Read.{kindOf, labelsOf}
 use Rattle.record.specs.Record.{recordOf}
 use Rattle.record.specs.Checked.{Readable}
-use Rattle.record.specs.Demand2Read.{Reads, readable-only-list, demand2-read-only-list}
+use Rattle.record.specs.Demand2Read.{Reads, demand2-read-only-list}
 use Rattle.drawing.specs.declared.Room.{Room}
 use Rattle.rooms.specs.Causes.{AcceptedRooms}
 use Rattle.rooms.specs.LabelList.{labelList, recordOfRooms}
-use Rattle.rooms.specs.Demand3.{BaxterOf, rooms-give-baxter, record-of-rooms-readable, label-list-back}
+use Rattle.rooms.specs.Demand3.{BaxterOf, rooms-give-baxter, label-list-back, kind-of-rooms}
 use Rattle.slicing.specs.Slicing.{Slicing}
 use Rattle.slicing.specs.Tree.{Tree, TreeBy, CuttingTree, bytesOf}
 use Rattle.slicing.specs.Cutting.{cuttingTree}
@@ -28,8 +28,7 @@ use Rattle.slicing.specs.Demand1.{TreeSays, refused-record, not-slicing,
 use Rattle.slicing.specs.OnlyTree.{only-tree}
 use Rattle.slicing.specs.TreeSlicing.{tree-slicing}
 use Rattle.slicing.specs.HasTree.{cutting-tree}
-use Rattle.slicing.specs.Size.{leaves, nodes, positions, Levels}
-use Rattle.slicing.specs.Size.{leaves-are-rooms, positions-in-order, bytes-are, bytes-of-tree, levels-alternate}
+use Rattle.slicing.specs.Size.{leaves, nodes, positions, Levels, leaves-are-rooms, positions-in-order, bytes-are, bytes-of-tree, levels-alternate}
 use Rattle.slicing.specs.SameTree.{same-tree→same-labels, bytes-tell}
 use Rattle.slicing.specs.TreeMap.{tree-map, tree-iff}
 use Rattle.slicing.specs.TreeOfRooms.{rooms-stand-iff-in-order, drawn-stand-iff-in-order, line-between-rooms}
@@ -129,7 +128,7 @@ m103-tree-of-rooms-by-record rooms accepted slicing =
     labels = label-list-back rooms accepted
 
     size : kindOf bytes ≡ length rooms
-    size = sym (readable-only-list bytes (record-of-rooms-readable rooms accepted) .size) ∙ ap length (sym labels) ∙ b .size
+    size = kind-of-rooms rooms accepted
 
     once : EachOnce (labelAt (labelsOf bytes)) (kindOf bytes)
     once = subst₂ (λ (list : List ℕ) (n : ℕ). EachOnce (labelAt list) n) labels (b .size ∙ sym size) (b .baxter .each-once)

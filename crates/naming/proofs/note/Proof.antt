@@ -6,7 +6,7 @@ use native.Mathlib.Omega.{arith}
 use lib.Bits.{bitOr, and-mask}
 use lib.ListN.{getD, set}
 use lib.Pow.{shl-exact}
-use Rattle.naming.specs.BitTable.{bitOf, withBit}
+use Rattle.finite.specs.BitTable.{bitOf, withBit}
 use Rattle.naming.specs.Seen.{bit-small}
 use borrow.Author.Needs.{needs}
 use Rattle.naming.proofs.note.Statement.{statement}

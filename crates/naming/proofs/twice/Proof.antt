@@ -4,7 +4,7 @@ use native.Mathlib.Omega.{arith}
 use lib.ListN.{length, getD}
 use Rattle.finite.specs.Extremes.{greatest-ge}
 use Rattle.naming.specs.Twice.{unnamed→not-twice}
-use Rattle.naming.specs.BitTable.{bit-none}
+use Rattle.finite.specs.BitTable.{bit-none}
 use borrow.Author.Needs.{needs}
 use Rattle.naming.proofs.twice.Statement.{statement}
 use Rattle.naming.proofs.twice.Tie as tie

@@ -8,7 +8,7 @@ use Rattle.finite.specs.Decide.{tells-iff}
 use Rattle.finite.specs.Marks.{Marks, marks-none, marks-more, marks-tell}
 use Rattle.finite.specs.Search.{Some}
 use Rattle.naming.specs.Twice.{Twice, Again, again→twice, twice→again}
-use Rattle.naming.specs.BitTable.{length-with-bit}
+use Rattle.finite.specs.BitTable.{length-with-bit}
 use Rattle.naming.specs.Seen.{SeenIn, bitFor, seen-none, seen-more}
 use borrow.Author.Needs.{needs}
 use Rattle.naming.proofs.twice_in_bits.Statement.{statement}

@@ -8,7 +8,8 @@ use Rattle.judging.specs.declared.Judged.{Judged}
 use Rattle.sizes.specs.Direction.{across, upward}
 use Rattle.sizes.specs.Lists.{eachWay}
 use Rattle.sizes.specs.Sized.{OtherLength, refused-record}
-use Rattle.packing.proofs.Admitted.{other-sizes, other-corners, zero-sizes, admitted, some-rooms, same-lengths}
+use Rattle.judging.specs.Walkable.{some-rooms}
+use Rattle.packing.proofs.Admitted.{other-sizes, other-corners, zero-sizes, admitted, same-lengths}
 use borrow.Author.Needs.{needs}
 use Rattle.packing.proofs.admit.Statement.{statement}
 use Rattle.packing.proofs.admit.Tie as tie

@@ -8,7 +8,7 @@ use Rattle.record.specs.Record.{tripleIn}
 use Rattle.record.specs.TripleNumber.{tripleOf, group-triple}
 use Rattle.steps.specs.Turn.{Says}
 use Rattle.sizes.specs.Direction.{across, upward}
-use Rattle.placing.proofs.Turned.{TurnFits, chosen-few}
+use Rattle.sizes.specs.Turned.{TurnFits, chosen-few}
 use Rattle.placing.proofs.Holding.{honoured-all, all-honoured, Holding, holding-first, holding-fits, broken-across, broken-upward, holding-next, holding-end}
 use borrow.Author.Needs.{needs}
 use Rattle.placing.proofs.keeps.Statement.{statement}

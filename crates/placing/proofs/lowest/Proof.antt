@@ -7,7 +7,7 @@ use Rattle.record.specs.Triple.{Triple}
 use Rattle.record.specs.Record.{tripleIn}
 use Rattle.record.specs.TripleNumber.{tripleOf, group-triple}
 use Rattle.steps.specs.Turn.{Says}
-use Rattle.placing.proofs.Turned.{TurnFits, chosen-few}
+use Rattle.sizes.specs.Turned.{TurnFits, chosen-few}
 use Rattle.placing.proofs.Lowering.{Lowering, lowering-first, lowering-fits, left-small, bottom-small, lowering-next, lowering-end}
 use borrow.Author.Needs.{needs}
 use Rattle.placing.proofs.lowest.Statement.{statement}

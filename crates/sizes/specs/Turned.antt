@@ -15,11 +15,11 @@ use Rattle.steps.specs.Turn.{Says, risesBy, fallsBy}
 use Rattle.steps.specs.Stack.{either}
 use Rattle.steps.specs.Table.{once-risen}
 use Rattle.steps.specs.Told.{bit-le}
 use Rattle.sizes.specs.Direction.{Direction, across, upward}
 use Rattle.sizes.specs.Lowest.{furthestBefore}
 use Rattle.sizes.specs.Lines.{line-of-first}
-use Rattle.placing.proofs.Stacked.{stacked-first}
-use Rattle.placing.proofs.OneWay.{Walks, OneWay, start-is, one-way-next, enough, counts-next}
+use Rattle.sizes.specs.Stacked.{stacked-first}
+use Rattle.sizes.specs.OneWay.{Walks, OneWay, start-is, one-way-next, enough, counts-next}
 
 -- a number or 0, as a bit says
 either-zero : (b x : ℕ) → either b x 0 ≡ b * x

@@ -9,10 +9,10 @@ use lib.Bits.{bitOr, or-shr, or-mod, or-zero-r, shifted-even}
 use lib.ListN.{length, getD, set, length-set, replicate, length-replicate, getD-replicate, List·getD-eq-default}
 use lib.Pow.{pow-add, pow-lt, pow-pos, shl-shr}
 use lib.Seq.{getD-set-same, getD-set-other}
 use Rattle.finite.specs.Decide.{le-or-lt, eq-or-ne}
 
 -- the binary digit of n that is worth 2 ^ j
-abbrev digit : (n j : ℕ) → ℕ
+abbrev pub digit : (n j : ℕ) → ℕ
 digit n j = n / 2 ^ j % 2
 
 abbrev pub bitOf : (w : ℕ) (words : List ℕ) (v : ℕ) → ℕ

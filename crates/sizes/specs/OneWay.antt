@@ -21,11 +21,11 @@ use Rattle.record.specs.Demand2.{OnlyList, demand2-one-list}
 use Rattle.steps.specs.Turn.{risesBy, fallsBy, meetsBy}
 use Rattle.steps.specs.Table.{Meets, step-meets, missing-on}
 use Rattle.drawing.specs.Walked.{newest-nearest}
 use Rattle.sizes.specs.Direction.{Direction}
 use Rattle.sizes.specs.Lowest.{furthestBefore}
 use Rattle.sizes.specs.Behind.{Joined, LastBefore, LastAfter, EndsWith}
 use Rattle.sizes.specs.Lines.{wayOf, LineAt, line-of-outline, furthest-at-line, line-next}
-use Rattle.placing.proofs.Stacked.{Stacked, top-is, chosen-top, stacked-next}
+use Rattle.sizes.specs.Stacked.{Stacked, top-is, chosen-top, stacked-next}
 
 -- ---- what the triples of a plan say of its rooms; f is the label at a position
 pub record Walks (t : ℕ → Triple) (n : ℕ) (f : ℕ → ℕ) : Type 0 where
