@@ -6,7 +6,7 @@ use borrow.Author.Tests.{lt-ltb}
 use lib.IntN.{ℤ, pos, negℤ, _-ℤ_, +ℤ-idl}
 use Rattle.record.specs.Refusal.{numberOf}
 use Rattle.record.specs.declared.Refusal.{Refusal}
-use Rattle.record.specs.declared.Refusal.the-variants.{Count, RoomSize, Overlap, Uncovered, FourMeet, LabelOutside, LabelTwice, BarredPattern, NoKind, ShortBody, BytesAfter, MissingRun, SeveralRuns, SpareBit, ShortOutput, PositionOutside, SamePosition, TextForm, NotSlicing, NameTwice, LongBook, BeyondBook, OtherSummary, OtherLength, ZeroSize, BrokenRelation}
+use Rattle.record.specs.declared.Refusal.the-variants.{Count, RoomSize, Overlap, Uncovered, FourMeet, LabelOutside, LabelTwice, BarredPattern, NoKind, ShortBody, BytesAfter, MissingRun, SeveralRuns, SpareBit, ShortOutput, PositionOutside, SamePosition, TextForm, NotSlicing, NameTwice, LongBook, BeyondBook, OtherSummary, OtherLength, ZeroSize, BrokenRelation, EmptyGroup}
 use Rattle.nenturxo.specs.Code.{refusalCode, badRecordCode}
 use mir.Syntax.{w32, w64}
 use mir.Val.{SFits, toZ, ofZ}
@@ -26,8 +26,8 @@ pub negated-fits : (n : ℕ) → n < 2147483648 → SFits w32 (negℤ (pos n))
 negated-fits zero h = record { sfits = omega arith }
 negated-fits (suc n) h = record { sfits = omega arith }
 
--- a refusal's number is one of 1 to 26
-pub number-small : (refusal : Refusal) → numberOf refusal ≤ 26
+-- a refusal's number is one of 1 to 27
+pub number-small : (refusal : Refusal) → numberOf refusal ≤ 27
 number-small Count = omega arith
 number-small RoomSize = omega arith
 number-small Overlap = omega arith
@@ -54,6 +54,7 @@ number-small OtherSummary = omega arith
 number-small OtherLength = omega arith
 number-small ZeroSize = omega arith
 number-small BrokenRelation = omega arith
+number-small EmptyGroup = omega arith
 
 pub refused-fits : (refusal : Refusal) → SFits w32 (refusalCode refusal)
 refused-fits refusal = negated-fits (numberOf refusal) (omega (arith, number-small refusal))

@@ -20,6 +20,8 @@ use Rattle.answers.specs.declared.RecordAnswer.{RecordAnswer}
 use Rattle.answers.specs.declared.RecordAnswer.the-variants as recordIn
 use Rattle.slicing.specs.declared.TreeAnswer.{TreeAnswer}
 use Rattle.slicing.specs.declared.TreeAnswer.the-variants as tree
+use Rattle.groups.specs.declared.GroupsAnswer.{GroupsAnswer}
+use Rattle.groups.specs.declared.GroupsAnswer.the-variants as groups
 use Rattle.sizes.specs.declared.CornersAnswer.{CornersAnswer}
 use Rattle.sizes.specs.declared.CornersAnswer.the-variants as corners
 use Rattle.sizes.specs.declared.SlackAnswer.{SlackAnswer}
@@ -130,3 +132,9 @@ slackCode (slack.Refused refusal) = refusalCode refusal
 abbrev pub placingCode : PlacingAnswer → ℤ
 placingCode placing.Accepted = pos 0
 placingCode (placing.Refused refusal) = refusalCode refusal
+
+-- Groups: the number of the side, as that of a relation which is not direct; 4 for mixed
+abbrev pub groupsCode : GroupsAnswer → ℤ
+groupsCode (groups.Related side) = pos (relationNumber side false)
+groupsCode groups.Mixed = pos 4
+groupsCode (groups.Refused refusal) = refusalCode refusal

@@ -8,6 +8,7 @@ ghost use Rattle.labeltext.specs.Answer.{Tidied};
 ghost use Rattle.answers.specs.Answer.{Few, slices, RecordIn};
 ghost use Rattle.slicing.specs.Answer.{TreeIn};
 ghost use Rattle.questions.specs.Answer.{questionAnswer};
+ghost use Rattle.groups.specs.Answer.{groupsAnswer};
 ghost use Rattle.sizes.specs.Lists.{eachWay};
 ghost use Rattle.sizes.specs.Answer.{LowestCorners, SlackIn, placingAnswer};
 ghost use Rattle.book.specs.Summary.{held};
@@ -16,7 +17,7 @@ ghost use Rattle.entering.specs.Answer.{slices as roomSlices, RoomsIn};
 ghost use Rattle.nenturxo.specs.Code.{Coded, refusalCode, roomsCode, labelsCode, tidyCode, recordCode, treeCode};
 ghost use Rattle.nenturxo.specs.Code.{patternNumber, patternCode, relationNumber, relatedNumber, questionCode};
 ghost use Rattle.nenturxo.specs.Code.{badRecordCode, nextCode, addCode};
-ghost use Rattle.nenturxo.specs.Code.{cornersCode, slackCode, placingCode};
+ghost use Rattle.nenturxo.specs.Code.{cornersCode, slackCode, placingCode, groupsCode};
 ghost use Rattle.nenturxo.specs.Size.{AtMost97, NextFits, AddFits};
 use answers::RecordAnswer;
 use book::AddAnswer;
@@ -25,6 +26,7 @@ use drawing::Relation;
 use drawing::Room;
 use drawing::Side;
 use entering::RoomsAnswer;
+use groups::GroupsAnswer;
 use labeltext::TidyAnswer;
 use patterns::Condition;
 use patterns::PatternAnswer;
@@ -326,5 +328,18 @@ pub extern "C" fn nenturxo_placing_in(
     match packing::placing_in(record, widths, heights, x, y) {
         PlacingAnswer::Accepted => 0,
         PlacingAnswer::Refused(refusal) => refused(refusal),
+    }
+}
+
+// Groups: the number of the side on which every room of the first group stands of every room of the second, 4 for mixed, or the refusal's
+// number negated.
+#[no_mangle]
+pub extern "C" fn nenturxo_groups(record: &[u8], first: &[u8; 32], second: &[u8; 32]) -> i32
+    ensures { λ r. ⌜ r ≡ groupsCode (groupsAnswer (now («record» .entry)) (now (first .entry)) (now (second .entry))) ⌝ }
+{
+    match grouping::groups(record, first, second) {
+        GroupsAnswer::Related(side) => side_number(side) as i32,
+        GroupsAnswer::Mixed => 4,
+        GroupsAnswer::Refused(refusal) => refused(refusal),
     }
 }

@@ -1,7 +1,7 @@
 -- The sheet's table of refusals: cause and number. "A number that any request adds joins document 01's table."
 use Prim.Native.Nat.{ℕ}
 use Rattle.record.specs.declared.Refusal.{Refusal}
-use Rattle.record.specs.declared.Refusal.the-variants.{Count, RoomSize, Overlap, Uncovered, FourMeet, LabelOutside, LabelTwice, BarredPattern, NoKind, ShortBody, BytesAfter, MissingRun, SeveralRuns, SpareBit, ShortOutput, PositionOutside, SamePosition, TextForm, NotSlicing, NameTwice, LongBook, BeyondBook, OtherSummary, OtherLength, ZeroSize, BrokenRelation}
+use Rattle.record.specs.declared.Refusal.the-variants.{Count, RoomSize, Overlap, Uncovered, FourMeet, LabelOutside, LabelTwice, BarredPattern, NoKind, ShortBody, BytesAfter, MissingRun, SeveralRuns, SpareBit, ShortOutput, PositionOutside, SamePosition, TextForm, NotSlicing, NameTwice, LongBook, BeyondBook, OtherSummary, OtherLength, ZeroSize, BrokenRelation, EmptyGroup}
 
 abbrev pub numberOf : Refusal → ℕ
 -- room or label list of 0 or over 255 entries
@@ -36,7 +36,7 @@ numberOf SpareBit = 14
 numberOf ShortOutput = 15
 -- asked position outside 1 to n
 numberOf PositionOutside = 16
--- the two asked positions equal
+-- the two asked positions equal, or a position in both groups (M-109)
 numberOf SamePosition = 17
 -- a text that breaks the form or is longer than 4,096 bytes (M-100)
 numberOf TextForm = 18
@@ -56,3 +56,5 @@ numberOf OtherLength = 24
 numberOf ZeroSize = 25
 -- a placing that breaks a relation (M-108)
 numberOf BrokenRelation = 26
+-- an empty group (M-109)
+numberOf EmptyGroup = 27

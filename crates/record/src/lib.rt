@@ -47,6 +47,7 @@ pub enum Refusal {
     OtherLength,
     ZeroSize,
     BrokenRelation,
+    EmptyGroup,
 }
 
 impl Refusal {
@@ -81,6 +82,7 @@ impl Refusal {
             Refusal::OtherLength => 24,
             Refusal::ZeroSize => 25,
             Refusal::BrokenRelation => 26,
+            Refusal::EmptyGroup => 27,
         }
     }
 }

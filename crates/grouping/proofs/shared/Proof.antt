@@ -1,0 +1,14 @@
+use mathlib.Core.Path.{refl}
+use native.Mathlib.Omega.{arith}
+use lib.Bits.{and-le-l}
+use borrow.Author.Needs.{needs}
+use Rattle.grouping.proofs.shared.Statement.{statement}
+use Rattle.grouping.proofs.shared.Tie as tie
+use Rattle.grouping.proofs.shared.Reads as reads
+use Rattle.grouping.proofs.shared.Lts as lts
+
+returns : tie.Need-returns
+returns c = (refl, omega (arith, and-le-l (c .args .one) (c .args .other), c .fits .one))
+
+pub shared-spec : {M : Type 1} → statement M
+shared-spec = tie.close (tie.spec returns)

@@ -1,0 +1,4 @@
+-- What the functions find
+pub mod Ends
+-- Theorems
+pub mod M109
