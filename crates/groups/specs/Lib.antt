@@ -11,3 +11,5 @@ pub mod Pairs
 pub mod Extremes
 pub mod ByExtremes
 pub mod OfRooms
+-- Worked examples
+pub mod Worked

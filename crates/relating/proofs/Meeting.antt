@@ -1,13 +1,12 @@
 -- The walk that sees which rooms of the first group stand before rooms of the second: a room of the first group ends its line at 1, and a
 -- room of the second that would start at 1 has met one.
-use mathlib.Core.Bool.{Bool}
 use mathlib.Core.List.{List}
-use mathlib.Core.Logic.{inl, inr}
+use mathlib.Core.Logic.{_⊎_, inl, inr}
 use mathlib.Core.Path.{_≡_, refl, sym, ap, subst, _∙_}
 use Prim.Native.Nat.{ℕ, zero, suc, _+_, _-_, _≤_, _<_, max, zero-le}
 use native.Mathlib.Omega.{arith}
 use native.Mathlib.Numerals.{add-one}
-use lib.Bits.{bitAnd, bitOr}
+use lib.Bits.{bitAnd, bitOr, and-le-l}
 use lib.Dec.{eqb}
 use lib.ListN.{length, getD, set, replicate, length-set}
 use lib.Seq.{getD-set-same, getD-set-other}
@@ -166,16 +165,33 @@ module _ (body first second : List ℕ) (n : ℕ) where
             bits-y : Bits (set yb (p + 1) top)
             bits-y = bits-stored yb (p + 1) top (now .bits-up) (omega (arith, now .long-up, meeting-fits)) (now .top-bit)
 
-    -- at the end all rooms of the second group have been looked at
-    pub meeting-end : {last k found : ℕ} (way : Direction) → Marks found (Some (Meets way) 0 (k + 1)) → k < n → last ≤ n → last ≤ k + 1
-        → EachIn second (λ j. j ≤ last) → Tells (eqb found 1) (SomeBefore label way first second)
-    meeting-end {last} {k} {found} way marks more short end all =
-        tells-iff _ _ (eqb found 1) to from (marks-tell (Meets way) (k + 1) (k + 1) found refl marks)
+    -- at the end all rooms of the second group have been looked at, or one has been found
+    pub meeting-end : {last k found : ℕ} (way : Direction) → Marks found (Some (Meets way) 0 (k + 1)) → k < n → last ≤ n
+        → (last ≤ k + 1) ⊎ (found ≡ 1) → EachIn second (λ j. j ≤ last) → Tells (eqb found 1) (SomeBefore label way first second)
+    meeting-end {last} {k} {found} way marks more short ended all =
+        tells-iff _ _ (eqb found 1) to (from ended marks) (marks-tell (Meets way) (k + 1) (k + 1) found refl marks)
       where
         to : Some (Meets way) 0 (k + 1) → SomeBefore label way first second
         to (j, a, b, (l, (i, c, d, (m, p)))) = (i, c, omega (arith, ok .few), (m, (suc j, omega arith, omega (arith, ok .few), (l, p))))
 
-        from : SomeBefore label way first second → Some (Meets way) 0 (k + 1)
-        from (i, a, b, (m, (zero, c, d, (l, p)))) = absurd (omega arith)
-        from (i, a, b, (m, (suc j, c, d, (l, p)))) =
-            (j, zero-le, omega (arith, all (suc j) c d l), (l, (i, a, omega (arith, before→earlier label way p, all (suc j) c d l), (m, p))))
+        from : (last ≤ k + 1) ⊎ (found ≡ 1) → Marks found (Some (Meets way) 0 (k + 1)) → SomeBefore label way first second → Some (Meets way) 0 (k + 1)
+        from (inr one) (inl (e, s)) some = s
+        from (inr one) (inr (e, none)) some = absurd (omega arith)
+        from (inl end) m (i, a, b, (o, (zero, c, d, (l, p)))) = absurd (omega arith)
+        from (inl end) m (i, a, b, (o, (suc j, c, d, (l, p)))) =
+            (j, zero-le, omega (arith, all (suc j) c d l), (l, (i, a, omega (arith, before→earlier label way p, all (suc j) c d l), (o, p))))
+
+-- ---- where the walk ends: at the last position, or at once where both relations have occurred
+abbrev pub Ends : (last end left below : ℕ) → Type 0
+Ends last end left below = (end ≡ last) ⊎ ((end ≡ 0) × (left ≡ 1) × (below ≡ 1))
+
+pub both-bit : {left below : ℕ} → left ≤ 1 → below ≤ 1 → bitAnd left below ≤ 1
+both-bit {left} {below} small small′ = omega (arith, and-le-l left below)
+
+pub ends-next : (last end left below : ℕ) {at : ℕ} → end ≡ last → left ≤ 1 → below ≤ 1 → at ≡ either (bitAnd left below) 0 end
+    → Ends last at left below
+ends-next last end zero below is small small′ e = inl (omega arith)
+ends-next last end (suc zero) zero is small small′ e = inl (omega arith)
+ends-next last end (suc zero) (suc zero) is small small′ e = inr (omega arith, refl, refl)
+ends-next last end (suc zero) (suc (suc below)) is small small′ e = absurd (omega arith)
+ends-next last end (suc (suc left)) below is small small′ e = absurd (omega arith)

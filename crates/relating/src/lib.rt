@@ -25,7 +25,7 @@ pub struct Seen {
 // The walk, up to the last position of the second group. With each run goes a bit across, which is 1 where a room of the first group is in
 // it or in a run below it, and a bit upward, for it and the runs above it: as for rooms of real sizes (`placing`), a line that lies at 1
 // behind a room of the first group and else at 0. A new room has a room of the first left of it where the bit across of the run that it
-// meets below is 1, and one below it where the bit upward of the run that it meets above is 1.
+// meets below is 1, and one below it where the bit upward of the run that it meets above is 1. Where both have occurred the walk ends.
 pub fn relations(body: &[u8], n: usize, last: usize, first: &[u8; 32], second: &[u8; 32]) -> Seen
     requires { ⌜ Walkable (now body) n × (1 ≤ last) × (last ≤ n) × EachIn (now second) (λ j. j ≤ last) ⌝ }
     ensures left { λ r. ⌜ Tells (r .left) (SomeBefore (labelAt (labelsIn (now (body .entry)) n)) across
@@ -43,8 +43,9 @@ pub fn relations(body: &[u8], n: usize, last: usize, first: &[u8; 32], second: &
     let mut top = right;
     let mut some_left = 0u8;
     let mut some_below = 0u8;
+    let mut end = last;
     let mut k = 0;
-    while k + 1 < last {
+    while k + 1 < end {
         let turn = steps::turn_of(bits::group(body, k));
         across_below[runs_below + 1] = right;
         across_above[runs_above + 1] = right;
@@ -56,16 +57,16 @@ pub fn relations(body: &[u8], n: usize, last: usize, first: &[u8; 32], second: &
         let bottom = up_above[above];
         let beside = across_above[steps::chosen(turn.above, above, 0)];
         let under = up_below[steps::chosen(turn.below, below, 0)];
-        let next = k + 1;
-        let one = member(first, next);
-        let other = member(second, next);
+        k += 1;
+        let one = member(first, k);
+        let other = member(second, k);
         some_left = some_left | (left & other);
         some_below = some_below | (bottom & other);
         right = left | beside | one;
         top = bottom | under | one;
         runs_below = below - turn.below;
         runs_above = above - turn.above;
-        k = next;
+        end = steps::chosen((some_left & some_below) as usize, 0, end);
     }
     Seen {
         left: some_left == 1,
