@@ -1281,6 +1281,170 @@ static void test_sizes(void) {
     test_records_with_sizes();
 }
 
+/* ---- Groups */
+
+/* A group at an odd address, with something around it that counts for nothing. */
+typedef struct {
+    uint8_t before;
+    uint8_t bytes[NENTURXO_GROUP_LENGTH];
+    uint8_t after[NENTURXO_GROUP_LENGTH];
+} group;
+
+/* The group of these positions, up to the first 0. */
+static group group_of(const int *positions) {
+    group made;
+    memset(&made, UNTOUCHED, sizeof made);
+    memset(made.bytes, 0, sizeof made.bytes);
+    for (; *positions != 0; positions++) {
+        const int k = *positions;
+        made.bytes[(k - 1) / 8] |= 1 << (k - 1) % 8;
+    }
+    return made;
+}
+
+/* Nothing of both groups changes. */
+static int32_t groups(const uint8_t *record, size_t length, const int *first, const int *second) {
+    const group one = group_of(first), other = group_of(second);
+    const group one_before = one, other_before = other;
+    int32_t code = nenturxo_groups(record, length, one.bytes, other.bytes);
+    CHECK(memcmp(&one, &one_before, sizeof one) == 0);
+    CHECK(memcmp(&other, &other_before, sizeof other) == 0);
+    return code;
+}
+
+/* What two groups give, and what they give exchanged. */
+static void stand(const uint8_t *record, size_t length, const int *first, const int *second,
+                  int there, int back) {
+    CHECK(groups(record, length, first, second) == there);
+    CHECK(groups(record, length, second, first) == back);
+}
+
+/* Positions, the last of which is followed by 0. */
+static const int nobody[] = {0}, just_1[] = {1, 0}, just_2[] = {2, 0}, just_4[] = {4, 0};
+static const int two_and_3[] = {2, 3, 0}, three_and_4[] = {3, 4, 0}, four_and_5[] = {4, 5, 0};
+
+/* Each answer, in the sheet's pinwheel: 4 1 3 5 2. */
+static void test_group_relations(void) {
+    const int upper[] = {2, 3, 5, 0}, outer[] = {1, 2, 4, 5, 0}, just_3[] = {3, 0};
+    const int left = NENTURXO_LEFT, right = NENTURXO_RIGHT;
+    const int above = NENTURXO_ABOVE, below = NENTURXO_BELOW, mixed = NENTURXO_MIXED;
+
+    stand(five_record, 3, two_and_3, just_4, left, right);
+    stand(five_record, 3, just_1, upper, below, above);
+    stand(five_record, 3, two_and_3, four_and_5, mixed, mixed);
+    stand(five_record, 3, outer, just_3, mixed, mixed);
+    CHECK(left == 0 && right == 1 && above == 2 && below == 3 && mixed == 4);
+}
+
+/* Groups of one room each give what the question does, without the rest. */
+static void test_groups_of_one(void) {
+    uint8_t first, second;
+    for (first = 1; first <= 5; first++) {
+        for (second = 1; second <= 5; second++) {
+            const int one[] = {first, 0}, other[] = {second, 0};
+            const int32_t asked = nenturxo_question(five_record, 3, first, second);
+            CHECK(groups(five_record, 3, one, other) == (asked < 0 ? asked : asked % 4));
+        }
+    }
+}
+
+/* A row of 255 rooms, all of them in two groups; and these mixed by an exchange of
+ * two rooms, where both have more than one. */
+static void test_all_rooms(void) {
+    uint8_t labels[NENTURXO_ROOMS_CAPACITY], record[NENTURXO_RECORD_CAPACITY];
+    int first[256] = {0}, second[256] = {0};
+    int i, k;
+
+    for (i = 0; i < 255; i++) {
+        labels[i] = (uint8_t)(i + 1);
+    }
+    CHECK(nenturxo_labels_in(labels, 255, record, sizeof record) == NENTURXO_RECORD_CAPACITY);
+    for (i = 1; i < 255; i++) {
+        memset(first, 0, sizeof first);
+        memset(second, 0, sizeof second);
+        for (k = 1; k <= 255; k++) {
+            if (k <= i) {
+                first[k - 1] = k;
+            } else {
+                second[k - i - 1] = k;
+            }
+        }
+        stand(record, sizeof record, first, second, NENTURXO_LEFT, NENTURXO_RIGHT);
+        if (i > 1 && i < 254) {
+            first[0] = i + 1;
+            second[0] = 1;
+            stand(record, sizeof record, first, second, NENTURXO_MIXED, NENTURXO_MIXED);
+        }
+    }
+}
+
+/* Each position above n, 256 too, in either group; before an empty group and
+ * before a position in both. */
+static void test_positions_outside(void) {
+    const int outside = -NENTURXO_POSITION_OUTSIDE;
+    int k;
+    for (k = 6; k <= 256; k++) {
+        const int beyond[] = {k, 0}, also[] = {1, k, 0};
+        stand(five_record, 3, beyond, just_1, outside, outside);
+        stand(five_record, 3, also, just_4, outside, outside);
+        stand(five_record, 3, also, nobody, outside, outside);
+        stand(five_record, 3, also, just_1, outside, outside);
+        stand(five_record, 3, also, also, outside, outside);
+    }
+}
+
+/* An empty group comes before a position in both, which an empty one has not. */
+static void test_empty_and_shared(void) {
+    const int everybody[] = {1, 2, 3, 4, 5, 0};
+    const int empty = -NENTURXO_EMPTY_GROUP, shared = -NENTURXO_POSITIONS_EQUAL;
+
+    CHECK(NENTURXO_EMPTY_GROUP == 27 && NENTURXO_POSITIONS_EQUAL == 17);
+    stand(five_record, 3, nobody, nobody, empty, empty);
+    stand(five_record, 3, nobody, just_1, empty, empty);
+    stand(five_record, 3, nobody, everybody, empty, empty);
+    stand(five_record, 3, just_1, just_1, shared, shared);
+    stand(five_record, 3, two_and_3, three_and_4, shared, shared);
+    stand(five_record, 3, everybody, four_and_5, shared, shared);
+}
+
+/* One array as both groups. */
+static void test_one_array(void) {
+    const group all = group_of(two_and_3), none_of_them = group_of(nobody);
+    CHECK(nenturxo_groups(five_record, 3, all.bytes, all.bytes) == -NENTURXO_POSITIONS_EQUAL);
+    CHECK(nenturxo_groups(five_record, 3, none_of_them.bytes, none_of_them.bytes) ==
+          -NENTURXO_EMPTY_GROUP);
+}
+
+/* The refusals of a record come before those of the groups. */
+static void test_records_with_groups(void) {
+    const uint8_t records[][2] = {{0x00, 0x00}, {0x02, 0x00}, {0x01, 0x00},
+                                  {0x02, 0xC1}, {0x02, 0x60}, {0x02, 0x00}};
+    const size_t lengths[] = {1, 1, 2, 2, 2, 2};
+    const int refusals[] = {NENTURXO_NO_KIND,   NENTURXO_BODY_SHORT,  NENTURXO_BYTES_AFTER,
+                            NENTURXO_SPARE_BIT, NENTURXO_RUN_MISSING, NENTURXO_RUNS_LEFT};
+    const int last[] = {256, 0};
+    size_t i;
+
+    stand(five_record, 0, just_1, just_2, -NENTURXO_NO_KIND, -NENTURXO_NO_KIND);
+    for (i = 0; i < COUNT(records); i++) {
+        const int refusal = -refusals[i];
+        stand(records[i], lengths[i], just_1, just_2, refusal, refusal);
+        stand(records[i], lengths[i], just_1, last, refusal, refusal);
+        stand(records[i], lengths[i], nobody, just_1, refusal, refusal);
+        stand(records[i], lengths[i], just_1, just_1, refusal, refusal);
+    }
+}
+
+static void test_groups(void) {
+    test_group_relations();
+    test_groups_of_one();
+    test_all_rooms();
+    test_positions_outside();
+    test_empty_and_shared();
+    test_one_array();
+    test_records_with_groups();
+}
+
 int main(void) {
     test_labels_in();
     test_rooms_in();
@@ -1291,6 +1455,7 @@ int main(void) {
     test_pattern();
     test_books();
     test_sizes();
+    test_groups();
     CHECK(sum(never_written, sizeof never_written) == 0);
     printf("%d checks of the C interface, %d failed\n", checks, failures);
     return failures == 0 ? 0 : 1;

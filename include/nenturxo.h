@@ -6,19 +6,20 @@
  *
  * Link with libnenturxo.a, which `rt staticlib nenturxo` writes. Every call
  * takes each slice as a pointer to its first element and its length in
- * elements, and gives one number back: at least 0 the result, below 0 a
- * refusal's number negated (enum nenturxo_refusal), which the calls on books
- * give with more to it. A refused call writes nothing. A call that is not
- * refused writes from the front of its output slices, or from the place that is
- * named at it, and leaves the rest of each as it was. A call that has further
- * numbers to give writes each through a pointer of its own.
+ * elements, and each group as a pointer to its 32 bytes. It gives one number
+ * back: at least 0 the result, below 0 a refusal's number negated (enum
+ * nenturxo_refusal), which the calls on books give with more to it. A refused
+ * call writes nothing. A call that is not refused writes from the front of its
+ * output slices, or from the place that is named at it, and leaves the rest of
+ * each as it was. A call that has further numbers to give writes each through a
+ * pointer of its own.
  *
  * No call allocates, keeps a pointer, or uses anything but its arguments, so
  * calls may run at the same time in any number of threads. What the caller
  * answers for: a pointer is good for as many elements as the length beside it
- * says, or for one number if there is no length, and is not null, even where
- * the length is 0; and no output, slice or number, overlaps anything else that
- * is handed to the same call.
+ * says, or, if there is no length, for the 32 bytes of a group or for one
+ * number, and is not null, even where the length is 0; and no output, slice or
+ * number, overlaps anything else that is handed to the same call.
  */
 #ifndef NENTURXO_H
 #define NENTURXO_H
@@ -42,6 +43,9 @@ extern "C" {
 /* The longest used part of a book. */
 #define NENTURXO_BOOK_CAPACITY 65535
 
+/* The bytes of a group of positions: always so many, for every record. */
+#define NENTURXO_GROUP_LENGTH 32
+
 /* Why a call is refused. Where several hold, the call gives the first in the
  * order that is named at it. */
 enum nenturxo_refusal {
@@ -61,7 +65,7 @@ enum nenturxo_refusal {
     NENTURXO_SPARE_BIT = 14,       /* spare bit is 1 */
     NENTURXO_SLICE_SHORT = 15,     /* an output slice too short */
     NENTURXO_POSITION_OUTSIDE = 16,/* asked position outside 1 to n */
-    NENTURXO_POSITIONS_EQUAL = 17, /* the two asked positions equal */
+    NENTURXO_POSITIONS_EQUAL = 17, /* the two asked positions equal or a position in both groups */
     NENTURXO_TEXT_FORM = 18,       /* text breaks the form or is longer than 4,096 bytes */
     NENTURXO_NOT_SLICING = 19,     /* the plan is not slicing */
     NENTURXO_NAME_TWICE = 20,      /* one nonzero name on two rooms */
@@ -70,7 +74,8 @@ enum nenturxo_refusal {
     NENTURXO_SUMMARY_DIFFERS = 23, /* summary is not the book's */
     NENTURXO_LENGTH_DIFFERS = 24,  /* a list whose length is not n */
     NENTURXO_ZERO_SIZE = 25,       /* a size of 0 */
-    NENTURXO_RELATION_BROKEN = 26  /* a placing that breaks a relation */
+    NENTURXO_RELATION_BROKEN = 26, /* a placing that breaks a relation */
+    NENTURXO_EMPTY_GROUP = 27      /* a group is empty */
 };
 
 /* A bad record in a book is refused by its own number together with its
@@ -81,7 +86,7 @@ enum nenturxo_refusal {
 #define NENTURXO_BOOK_ORDINAL(r) (-(r) / 256)
 
 /* On which side of another room a room stands: the two low bits of what
- * nenturxo_question gives. */
+ * nenturxo_question gives, and what nenturxo_groups gives for whole groups. */
 enum nenturxo_relation {
     NENTURXO_LEFT = 0,
     NENTURXO_RIGHT = 1,
@@ -94,6 +99,10 @@ enum nenturxo_relation {
  * 0 to 3, 4 to 7 or 12 to 15. */
 #define NENTURXO_TOUCH 4
 #define NENTURXO_DIRECT 8
+
+/* What nenturxo_groups gives where none of the four relations holds between all
+ * rooms of two groups. */
+#define NENTURXO_MIXED 4
 
 /* Which of the two conditions of a barred pattern four labels meet: what
  * nenturxo_pattern gives, divided by 2^32. For positions i < j < k < l with the
@@ -361,6 +370,34 @@ int32_t nenturxo_placing_in(const uint8_t *record, size_t length,
                             const uint16_t *heights, size_t heights_length,
                             const uint32_t *x, size_t x_length,
                             const uint32_t *y, size_t y_length);
+
+/* Groups: how a whole group of rooms of a record stands to another group.
+ *
+ * record     the record's bytes, all of them and no more
+ * first      a group of positions, as 32 bytes: position k, from 1, is in it if
+ *            bit (k - 1) % 8, counted from the low end, of byte (k - 1) / 8 is 1
+ * second     another one, likewise
+ *
+ * So a group begins as 32 bytes of 0, and this puts position k into it:
+ *
+ *     group[(k - 1) / 8] |= 1 << (k - 1) % 8;
+ *
+ * Gives an enum nenturxo_relation if every room of the first group stands so to
+ * every room of the second one, directly or through others, and else
+ * NENTURXO_MIXED. For two groups of one room each this is the relation that
+ * nenturxo_question gives, without NENTURXO_TOUCH and NENTURXO_DIRECT. With first
+ * and second exchanged it gives the opposite side, or NENTURXO_MIXED again. The
+ * answer is the same for every floorplan that has the record.
+ *
+ * In the record 05 31 70 the rooms at positions 2 and 3 are left of the one at
+ * 4: the groups 06 00 .. 00 and 08 00 .. 00 give NENTURXO_LEFT. The room at 5 is
+ * right of 2 but above 3: 06 00 .. 00 and 18 00 .. 00 give NENTURXO_MIXED.
+ *
+ * Nothing is written. Refusals, in this order: 9, 10, 11, 14, 12, 13, 16 for a
+ * position above n in either group, 256 too, 27, 17 for a position in both. */
+int32_t nenturxo_groups(const uint8_t *record, size_t length,
+                        const uint8_t first[NENTURXO_GROUP_LENGTH],
+                        const uint8_t second[NENTURXO_GROUP_LENGTH]);
 
 #ifdef __cplusplus
 }

@@ -594,6 +594,59 @@ pub fn placing_in(
     result(sys::placing_in(record, widths, heights, x, y)).map(|_| ())
 }
 
+/// Groups: gives how a whole group of rooms of a record stands to another group.
+/// That is `Some` side if every room of `first` is on that side of every room of
+/// `second`, directly or through others, and `None` if the two are mixed.
+///
+/// A group is 32 bytes, whatever the record: position k is bit (k − 1) mod 8,
+/// counted from the low end, of byte (k − 1) / 8, rounded down.
+///
+/// For two groups of one room each the answer is the side that [`question`]
+/// gives. With the groups exchanged it is the opposite side, or again `None`. It
+/// is the same for every equivalent floorplan.
+///
+/// ```
+/// use nenturxo::{groups, Refusal, Side};
+///
+/// fn group(positions: &[u8]) -> [u8; 32] {
+///     let mut group = [0; 32];
+///     for position in positions {
+///         let bit = usize::from(position - 1);
+///         group[bit / 8] |= 1 << (bit % 8);
+///     }
+///     group
+/// }
+///
+/// // A pinwheel: room 3 has the others round it.
+/// let record = [0x05, 0x31, 0x70];
+/// let asked = |first: &[u8], second: &[u8]| groups(&record, &group(first), &group(second));
+/// assert_eq!(asked(&[2, 3], &[4])?, Some(Side::Left));
+/// assert_eq!(asked(&[2, 3, 5], &[1])?, Some(Side::Above));
+/// // Room 5 is right of 2, but above 3.
+/// assert_eq!(asked(&[2, 3], &[4, 5])?, None);
+///
+/// assert_eq!(asked(&[2, 6], &[4]), Err(Refusal::POSITION_OUTSIDE));
+/// assert_eq!(asked(&[], &[4]), Err(Refusal::EMPTY_GROUP));
+/// assert_eq!(asked(&[2, 4], &[4]), Err(Refusal::POSITIONS_EQUAL));
+/// # Ok::<(), Refusal>(())
+/// ```
+///
+/// # Errors
+///
+/// The first of these that holds: [9](Refusal::NO_KIND),
+/// [10](Refusal::BODY_SHORT), [11](Refusal::BYTES_AFTER),
+/// [14](Refusal::SPARE_BIT), [12](Refusal::RUN_MISSING),
+/// [13](Refusal::RUNS_LEFT), [16](Refusal::POSITION_OUTSIDE) for a position above
+/// n in either group, 256 too, [27](Refusal::EMPTY_GROUP),
+/// [17](Refusal::POSITIONS_EQUAL) for a position in both.
+pub fn groups(record: &[u8], first: &[u8; 32], second: &[u8; 32]) -> Result<Option<Side>, Refusal> {
+    let code = sys::groups(record, first, second);
+    if code < 0 {
+        return Err(Refusal::from_code(code));
+    }
+    Ok(Side::from_code(code))
+}
+
 /// The result of a call on a book that a code stands for.
 fn book_result(code: sys::Code) -> Result<usize, BookError> {
     usize::try_from(code).map_err(|_| BookError::from_code(code))

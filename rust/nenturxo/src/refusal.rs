@@ -52,7 +52,7 @@ impl Refusal {
     pub const SLICE_SHORT: Self = Self(15);
     /// 16: asked position outside 1 to n
     pub const POSITION_OUTSIDE: Self = Self(16);
-    /// 17: the two asked positions equal
+    /// 17: the two asked positions equal or a position in both groups
     pub const POSITIONS_EQUAL: Self = Self(17);
     /// 18: text breaks the form or is longer than 4,096 bytes
     pub const TEXT_FORM: Self = Self(18);
@@ -72,6 +72,8 @@ impl Refusal {
     pub const ZERO_SIZE: Self = Self(25);
     /// 26: a placing that breaks a relation
     pub const RELATION_BROKEN: Self = Self(26);
+    /// 27: a group is empty
+    pub const EMPTY_GROUP: Self = Self(27);
 
     /// The refusal that a code below 0 stands for, be it long or not. A
     /// refusal's number is small.
@@ -110,7 +112,7 @@ impl Refusal {
             Self::SPARE_BIT => "spare bit is 1",
             Self::SLICE_SHORT => "an output slice too short",
             Self::POSITION_OUTSIDE => "asked position outside 1 to n",
-            Self::POSITIONS_EQUAL => "the two asked positions equal",
+            Self::POSITIONS_EQUAL => "the two asked positions equal or a position in both groups",
             Self::TEXT_FORM => "text breaks the form or is longer than 4,096 bytes",
             Self::NOT_SLICING => "the plan is not slicing",
             Self::NAME_TWICE => "one nonzero name on two rooms",
@@ -122,6 +124,7 @@ impl Refusal {
             Self::LENGTH_DIFFERS => "a list whose length is not n",
             Self::ZERO_SIZE => "a size of 0",
             Self::RELATION_BROKEN => "a placing that breaks a relation",
+            Self::EMPTY_GROUP => "a group is empty",
             // The library has no other numbers.
             _ => "not in the table",
         }

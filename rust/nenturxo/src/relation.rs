@@ -17,6 +17,16 @@ pub enum Side {
 }
 
 impl Side {
+    /// The sides by their codes.
+    const BY_CODE: [Self; 4] = [Self::Left, Self::Right, Self::Above, Self::Below];
+
+    /// The side that a code stands for, if it is one of theirs: the code for
+    /// mixed groups is not.
+    pub(crate) fn from_code(code: Code) -> Option<Self> {
+        let code = usize::try_from(code).ok()?;
+        Self::BY_CODE.get(code).copied()
+    }
+
     /// The side on which the other room is of this one.
     ///
     /// ```
@@ -73,12 +83,7 @@ impl Relation {
     /// of a code from 0 to 15 the lowest two bits are the side, the next one
     /// says that they touch and the highest one that the relation is direct.
     pub(crate) const fn from_code(code: Code) -> (Self, bool) {
-        let side = match code & 3 {
-            0 => Side::Left,
-            1 => Side::Right,
-            2 => Side::Above,
-            _ => Side::Below,
-        };
+        let side = Side::BY_CODE[(code & 3) as usize];
         let direct = code & 8 != 0;
         (Self { side, direct }, code & 4 != 0)
     }
@@ -107,6 +112,16 @@ mod tests {
     use super::{Relation, Side};
 
     const SIDES: [Side; 4] = [Side::Left, Side::Right, Side::Above, Side::Below];
+
+    #[test]
+    fn codes_0_to_3_stand_for_sides_and_others_for_none() {
+        for (code, side) in (0..).zip(SIDES) {
+            assert_eq!(Side::from_code(code), Some(side));
+        }
+        for code in [4, 5, 16, 256, -1, i32::MIN, i32::MAX] {
+            assert_eq!(Side::from_code(code), None);
+        }
+    }
 
     #[test]
     fn every_code_stands_for_a_relation() {

@@ -102,6 +102,13 @@ mod c {
             y: *const u32,
             y_length: usize,
         ) -> Code;
+
+        pub fn nenturxo_groups(
+            record: *const u8,
+            n: usize,
+            first: *const u8,
+            second: *const u8,
+        ) -> Code;
     }
 }
 
@@ -304,6 +311,21 @@ pub fn placing_in(record: &[u8], widths: &[u16], heights: &[u16], x: &[u32], y: 
             x.len(),
             y.as_ptr(),
             y.len(),
+        )
+    }
+}
+
+/// `nenturxo_groups` on a slice and two groups.
+pub fn groups(record: &[u8], first: &[u8; 32], second: &[u8; 32]) -> Code {
+    // SAFETY: the first pointer is good for as many bytes as the length beside
+    // it says, and each of the others for the 32 bytes of a group. The call
+    // keeps no pointer.
+    unsafe {
+        c::nenturxo_groups(
+            record.as_ptr(),
+            record.len(),
+            first.as_ptr(),
+            second.as_ptr(),
         )
     }
 }
