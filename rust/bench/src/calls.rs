@@ -2,6 +2,7 @@
 
 use crate::books::{book_with_places, FullBook};
 use crate::case::Case;
+use crate::groups::GroupedPlan;
 use crate::outputs::{Drawing, Numbers};
 use crate::room_list::RoomList;
 use crate::sizes::{Corners, SizedPlan};
@@ -150,6 +151,12 @@ pub const PLACING_IN: Call = Call {
     sheet: |cases| one_turn(cases, |case| case.sized.placed_by(reference::placing_in)),
 };
 
+pub const GROUPS: Call = Call {
+    name: "Groups",
+    times: |cases, calls| groups(cases, calls, |case| &case.grouped),
+    sheet: |cases| one_turn(cases, |case| case.grouped.by(reference::groups)),
+};
+
 /// The times of so many calls of "Rooms in" on the lists of cases, accepted or
 /// refused.
 pub fn rooms_in<T>(cases: &[T], calls: usize, list_of: impl Fn(&T) -> &RoomList) -> Times {
@@ -262,5 +269,16 @@ pub fn placing_in<T>(cases: &[T], calls: usize, plan_of: impl Fn(&T) -> &SizedPl
         calls,
         |case| plan_of(case).placed_by_library(),
         |case| plan_of(case).placed_by(fast::placing_in),
+    )
+}
+
+/// The times of so many calls of "Groups" on the groups of cases, accepted or
+/// refused.
+pub fn groups<T>(cases: &[T], calls: usize, plan_of: impl Fn(&T) -> &GroupedPlan) -> Times {
+    quickest(
+        cases,
+        calls,
+        |case| plan_of(case).by_library(),
+        |case| plan_of(case).by(fast::groups),
     )
 }

@@ -1,5 +1,6 @@
 //! What the calls are timed with.
 
+use crate::groups::GroupedPlan;
 use crate::outputs::Drawing;
 use crate::room_list::RoomList;
 use crate::sizes::SizedPlan;
@@ -31,6 +32,8 @@ pub struct Case {
     pub barred: Vec<u8>,
     /// The plan with random sizes.
     pub sized: SizedPlan,
+    /// The plan with two related groups of its rooms.
+    pub grouped: GroupedPlan,
     /// Two positions to ask for.
     pub first: u8,
     pub second: u8,
@@ -46,7 +49,7 @@ impl Case {
         plan.stretch(random);
         plan.shuffle(random);
         // Copies of the generator, so that the plans are the same as without
-        // names, texts, trees, patterns and sizes.
+        // names, texts, trees, patterns, sizes and groups.
         plan.put_names(&random_names(n, &mut random.clone()));
         let slicing = SlicingPlan::random(n, &mut random.clone());
         Self {
@@ -55,6 +58,7 @@ impl Case {
             tree: slicing.tree.bytes(),
             barred: lists::random_barred(n, &mut random.clone()),
             sized: SizedPlan::random(&walked, &mut random.clone()),
+            grouped: GroupedPlan::related(&walked, &mut random.clone()),
             record: walked.record(),
             labels: walked.labels,
             list: RoomList::new(plan.rooms()),
@@ -75,6 +79,8 @@ impl Case {
         self.check_tree();
         self.check_pattern();
         self.sized.check();
+        let side = self.grouped.answer();
+        assert!(matches!(side, Ok(Some(_))), "{:02X?}", self.record);
     }
 
     fn check_labels_in(&self) {

@@ -7,6 +7,7 @@
 mod books;
 mod calls;
 mod case;
+mod groups;
 mod lists;
 mod names;
 mod outputs;
@@ -18,11 +19,12 @@ mod timing;
 
 use books::BOOKS;
 use calls::{
-    book_add, book_next, lowest_corners, pattern, placing_in, rooms_in, slack, tidy, tree, Call,
-    BOOK_NEXT, LABELS_IN, LOWEST_CORNERS, PATTERN, PLACING_IN, QUESTION, RECORD_IN, ROOMS_IN,
-    SLACK, TIDY, TREE,
+    book_add, book_next, groups, lowest_corners, pattern, placing_in, rooms_in, slack, tidy, tree,
+    Call, BOOK_NEXT, GROUPS, LABELS_IN, LOWEST_CORNERS, PATTERN, PLACING_IN, QUESTION, RECORD_IN,
+    ROOMS_IN, SLACK, TIDY, TREE,
 };
 use case::Case;
+use groups::PAIRS;
 use lists::LISTS;
 use names::NAMES;
 use reference::cases::Random;
@@ -31,10 +33,10 @@ use room_list::RoomList;
 use shapes::{Shape, SHAPES};
 use sizes::{PLACINGS, SIZED_PLANS};
 use texts::{Kind, BROKEN_AT_THE_END, MANY_HANDS, TIDY_FORM, TOO_MANY_NUMBERS};
-use timing::{calls_in_a_round, Times, ROUNDS};
+use timing::{calls_in_a_round, one_turn, Times, ROUNDS};
 
 /// The calls.
-const EVERY_CALL: [Call; 11] = [
+const EVERY_CALL: [Call; 12] = [
     LABELS_IN,
     RECORD_IN,
     ROOMS_IN,
@@ -46,6 +48,7 @@ const EVERY_CALL: [Call; 11] = [
     LOWEST_CORNERS,
     SLACK,
     PLACING_IN,
+    GROUPS,
 ];
 
 /// Counts of rooms for the time of a call.
@@ -99,6 +102,8 @@ fn main() {
 
     print_placings("nanoseconds per call of Placing in, by the placing");
 
+    print_groups("nanoseconds per call of Groups, by the groups");
+
     print_rooms("nanoseconds per room");
 
     print_search(&format!(
@@ -133,12 +138,16 @@ fn print_head(title: &str) {
 }
 
 /// Prints the times of a call, taken over so many calls in a round and in the
-/// unit of which a nanosecond per call is `worth` many, and the ratios of the
-/// library to each of the two Rust versions.
+/// unit of which a nanosecond per call is `worth` many.
 fn print_row(call: Call, cases: &[Case], calls: usize, worth: f64) {
     let sheet = (call.sheet)(cases);
     let times = (call.times)(cases, calls);
-    let (name, n) = (call.name, cases[0].labels.len());
+    print_times(call.name, cases[0].labels.len(), sheet, &times, worth);
+}
+
+/// Prints times in the unit of which a nanosecond is `worth` many, and the
+/// ratios of the library to each of the two Rust versions.
+fn print_times(name: &str, n: usize, sheet: f64, times: &Times, worth: f64) {
     print!("{name:<14} {n:>5} {:>10.2}", times.library * worth);
     print!(" {:>12.2} {:>6.3}", sheet * worth, times.library / sheet);
     println!(" {:>10.2} {:>6.2}", times.tuned * worth, times.ratio());
@@ -350,4 +359,17 @@ fn print_sizes_head(title: &str) {
 fn print_sizes_row(name: &str, times: &Times) {
     print!("{name:<26} {ROOMS_WITH_SIZES:>4} {:>10.2}", times.library);
     println!(" {:>10.2} {:>6.2}", times.tuned, times.ratio());
+}
+
+/// Prints the times for pairs of groups of each kind.
+fn print_groups(title: &str) {
+    print_head(title);
+    for kind in PAIRS {
+        for n in CALLS {
+            let plans = kind.plans(PLANS, n);
+            let sheet = one_turn(&plans, |plan| plan.by(reference::groups));
+            let times = groups(&plans, calls_in_a_round(&plans, n), |plan| plan);
+            print_times(kind.name, n, sheet, &times, 1.0);
+        }
+    }
 }

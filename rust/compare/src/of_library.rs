@@ -1,4 +1,5 @@
-//! Rooms, relations, patterns, summaries and slacks in the library's own types.
+//! Rooms, sides, relations, patterns, summaries and slacks in the library's own
+//! types.
 
 use reference::{Condition, Pattern, Relation, Room, Side, Summary};
 
@@ -20,16 +21,22 @@ pub fn rooms(rooms: &[Room]) -> Vec<nenturxo::Room> {
     rooms.iter().copied().map(room).collect()
 }
 
-/// A relation as the library names it.
+/// A side as the library names it.
 #[must_use]
-pub fn relation(relation: Relation) -> nenturxo::Relation {
-    let side = match relation.side {
+pub fn side(side: Side) -> nenturxo::Side {
+    match side {
         Side::Left => nenturxo::Side::Left,
         Side::Right => nenturxo::Side::Right,
         Side::Above => nenturxo::Side::Above,
         Side::Below => nenturxo::Side::Below,
-    };
-    let direct = relation.direct;
+    }
+}
+
+/// A relation as the library names it.
+#[must_use]
+pub fn relation(relation: Relation) -> nenturxo::Relation {
+    let Relation { side, direct } = relation;
+    let side = self::side(side);
     nenturxo::Relation { side, direct }
 }
 

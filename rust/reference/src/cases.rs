@@ -6,6 +6,7 @@
 pub mod asked;
 pub mod barred;
 pub mod book;
+pub mod groups;
 pub mod names;
 mod random;
 pub mod sizes;

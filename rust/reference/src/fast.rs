@@ -5,6 +5,7 @@ mod book;
 mod book_by_triples;
 #[cfg(test)]
 mod book_checks;
+mod groups;
 mod labels;
 mod pattern;
 mod plan;
@@ -21,6 +22,7 @@ mod walks;
 
 pub use book::{book_add, book_next};
 pub use book_by_triples::{book_add_by_triples, book_next_by_triples};
+pub use groups::groups;
 pub use labels::labels_in;
 pub use pattern::pattern;
 pub use plan::{question, record_in};

@@ -2,7 +2,7 @@
 //!
 //! This is the separately written version that the proved library is held to.
 //! It is meant to be believed by reading: each function is one sentence of
-//! the sheet, or of the requests M-100 to M-108, and says which. What is fast
+//! the sheet, or of the requests M-100 to M-109, and says which. What is fast
 //! lives apart, in [`fast`], and is itself held to the definitions. What tests
 //! are made of is in [`cases`].
 //!
@@ -25,6 +25,7 @@ mod cutting;
 mod drawing;
 mod edge;
 pub mod fast;
+mod groups;
 mod labels;
 mod pattern;
 mod plan;
@@ -47,6 +48,7 @@ pub use book::{book_add, book_next, summary_of, BookRefusal, Summary, BOOK_CAPAC
 pub use cutting::{cutting_tree, Cut, CuttingTree};
 pub use drawing::{drawing, Room};
 pub use edge::{Edge, Line};
+pub use groups::{groups, positions_in, Group};
 pub use labels::labels_in;
 pub use pattern::{pattern, Condition, Pattern};
 pub use plan::{plan_of, record_in, Plan};

@@ -1,5 +1,5 @@
 //! The sheet's table of refusals, with the numbers that M-100, M-103, M-106,
-//! M-107 and M-108 add.
+//! M-107, M-108 and M-109 add.
 
 use std::fmt;
 
@@ -39,7 +39,7 @@ pub enum Refusal {
     SliceShort = 15,
     /// 16: asked position outside 1 to n
     PositionOutside = 16,
-    /// 17: the two asked positions equal
+    /// 17: the two asked positions equal or a position in both groups
     PositionsEqual = 17,
     /// 18: text breaks the form or is longer than 4,096 bytes
     TextForm = 18,
@@ -59,11 +59,13 @@ pub enum Refusal {
     ZeroSize = 25,
     /// 26: a placing that breaks a relation
     RelationBroken = 26,
+    /// 27: a group is empty
+    EmptyGroup = 27,
 }
 
 impl Refusal {
     /// Every refusal, in the order of the table.
-    pub const ALL: [Self; 26] = [
+    pub const ALL: [Self; 27] = [
         Self::ListLength,
         Self::EmptyRoom,
         Self::SharedSquare,
@@ -90,6 +92,7 @@ impl Refusal {
         Self::LengthDiffers,
         Self::ZeroSize,
         Self::RelationBroken,
+        Self::EmptyGroup,
     ];
 
     /// What a room list is refused with, in the sheet's order with that of
@@ -208,6 +211,19 @@ impl Refusal {
         Self::RelationBroken,
     ];
 
+    /// What a record and two groups are refused with, in the request's order.
+    pub const OF_GROUPS: [Self; 9] = [
+        Self::NoKind,
+        Self::BodyShort,
+        Self::BytesAfter,
+        Self::SpareBit,
+        Self::RunMissing,
+        Self::RunsLeft,
+        Self::PositionOutside,
+        Self::EmptyGroup,
+        Self::PositionsEqual,
+    ];
+
     /// The refusal's number in the table.
     #[must_use]
     pub const fn number(self) -> u8 {
@@ -234,7 +250,7 @@ impl Refusal {
             Self::SpareBit => "spare bit is 1",
             Self::SliceShort => "an output slice too short",
             Self::PositionOutside => "asked position outside 1 to n",
-            Self::PositionsEqual => "the two asked positions equal",
+            Self::PositionsEqual => "the two asked positions equal or a position in both groups",
             Self::TextForm => "text breaks the form or is longer than 4,096 bytes",
             Self::NotSlicing => "the plan is not slicing",
             Self::NameTwice => "one nonzero name on two rooms",
@@ -246,6 +262,7 @@ impl Refusal {
             Self::LengthDiffers => "a list whose length is not n",
             Self::ZeroSize => "a size of 0",
             Self::RelationBroken => "a placing that breaks a relation",
+            Self::EmptyGroup => "a group is empty",
         }
     }
 }
@@ -263,9 +280,9 @@ mod tests {
     use super::Refusal;
 
     #[test]
-    fn numbers_are_1_to_26_in_the_order_of_the_table() {
+    fn numbers_are_1_to_27_in_the_order_of_the_table() {
         let numbers: Vec<u8> = Refusal::ALL.iter().map(|r| r.number()).collect();
-        assert_eq!(numbers, (1..=26).collect::<Vec<u8>>());
+        assert_eq!(numbers, (1..=27).collect::<Vec<u8>>());
     }
 
     #[test]
@@ -285,5 +302,7 @@ mod tests {
         assert_eq!(numbers(&Refusal::OF_SIZES), of_sizes);
         let of_placings = [9, 10, 11, 14, 12, 13, 24, 25, 26];
         assert_eq!(numbers(&Refusal::OF_PLACINGS), of_placings);
+        let of_groups = [9, 10, 11, 14, 12, 13, 16, 27, 17];
+        assert_eq!(numbers(&Refusal::OF_GROUPS), of_groups);
     }
 }

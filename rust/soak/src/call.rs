@@ -1,6 +1,6 @@
 //! The calls.
 
-use crate::{books, labels, patterns, records, rooms, sizes, texts};
+use crate::{books, groups, labels, patterns, records, rooms, sizes, texts};
 use compare::Tally;
 use reference::cases::Random;
 use reference::Refusal;
@@ -29,7 +29,7 @@ const OF_POSITIONS: &[Refusal] = &[Refusal::PositionOutside, Refusal::PositionsE
 const OF_ADDING: &[Refusal] = &[Refusal::BytesAfter, Refusal::SliceShort];
 
 /// The calls of the library.
-pub const CALLS: [Call; 12] = [
+pub const CALLS: [Call; 13] = [
     Call {
         name: "Labels in",
         compare_some: labels::compare_some,
@@ -89,6 +89,11 @@ pub const CALLS: [Call; 12] = [
         name: "Placing in",
         compare_some: sizes::place_some,
         refusals: [&Refusal::OF_PLACINGS, &[]],
+    },
+    Call {
+        name: "Groups",
+        compare_some: groups::compare_some,
+        refusals: [&Refusal::OF_GROUPS, &[]],
     },
 ];
 

@@ -12,6 +12,7 @@
 
 mod books;
 mod call;
+mod groups;
 mod labels;
 mod patterns;
 mod records;
@@ -28,7 +29,7 @@ use std::sync::atomic::{AtomicUsize, Ordering};
 use std::{env, panic, process, thread};
 
 /// Batches, unless the argument says otherwise.
-const BATCHES: usize = 12_000;
+const BATCHES: usize = 13_000;
 
 const THREADS: usize = 2;
 
@@ -50,6 +51,7 @@ fn main() -> ExitCode {
     for (call, tally) in CALLS.iter().zip(&tallies) {
         call.check(tally);
     }
+    groups::check_answers();
     println!("soak: {} inputs, no difference", grouped(inputs));
     ExitCode::SUCCESS
 }

@@ -2,39 +2,13 @@
 //! The order is 9, 10, 11, 14, 12, 13, then 24, 25, 26, and 15 last.
 
 use crate::help::{at_0, expect_refused, REFUSED};
+use compare::records::refused_records;
 use compare::Tally;
 use reference::cases::sizes::{Placing, SizedRecord};
 use reference::cases::walk::Walked;
-use reference::cases::worked::REFUSED_RECORDS;
 use reference::Refusal;
 
-/// Two causes of a record, and the one that comes first; and large ones.
-fn refused_records() -> Vec<(Vec<u8>, Refusal)> {
-    let of_255 = |first: u8, last: u8| {
-        let mut record = vec![0; 97];
-        (record[0], record[1], record[96]) = (255, first, last);
-        record
-    };
-    let two_causes = [
-        (vec![], Refusal::NoKind),
-        (vec![0x00, 0x60], Refusal::NoKind),    // and bytes after
-        (vec![0x04, 0x60], Refusal::BodyShort), // and a run missing
-        (vec![0x02, 0xc1, 0x00], Refusal::BytesAfter), // and 14 and 12
-        (vec![0x02, 0x00, 0x01], Refusal::BytesAfter), // and 13
-        (vec![0x02, 0x61], Refusal::SpareBit),  // and 12
-        (vec![0x02, 0x01], Refusal::SpareBit),  // and 13
-        (vec![0x03, 0x60], Refusal::RunMissing), // and 13
-        (vec![255; 96], Refusal::BodyShort),
-        (vec![255; 98], Refusal::BytesAfter),
-        (of_255(0, 0x20), Refusal::SpareBit),
-        (of_255(0x60, 0), Refusal::RunMissing),
-        (of_255(0, 0), Refusal::RunsLeft),
-    ];
-    let printed = REFUSED_RECORDS.map(|(record, refusal)| (record.to_vec(), refusal));
-    printed.into_iter().chain(two_causes).collect()
-}
-
-/// How many there are.
+/// How many [`refused_records`] there are.
 const RECORDS: usize = 6 + 13;
 
 /// The record's kind, as a number of rooms.

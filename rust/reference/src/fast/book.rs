@@ -18,10 +18,11 @@ mod walk;
 use super::steps::body_of;
 use crate::{BookRefusal, Refusal, Summary, BOOK_CAPACITY};
 use counting::{Count, Counted};
-use refusal::refusal_at_the_front;
+pub(super) use refusal::refusal_at_the_front;
 use steps::ByFours;
+pub(super) use steps::{four, four_at_the_end, BELOW_0};
 use walk::falls;
-pub(super) use walk::{End, Walk, WINDOW};
+pub(super) use walk::{last_word, word, End, Walk, WINDOW};
 
 /// Book next, with the answers of [`crate::book_next`].
 ///

@@ -5,7 +5,7 @@ use crate::Refusal;
 /// Which of 9, 10, 14, 12 and 13 it is, for the record that begins with these
 /// bytes and is not accepted. Bytes after its body do not count.
 #[cold]
-pub(super) fn refusal_at_the_front(bytes: &[u8]) -> Refusal {
+pub(in crate::fast) fn refusal_at_the_front(bytes: &[u8]) -> Refusal {
     let Some((&kind, rest)) = bytes.split_first().filter(|(&kind, _)| kind > 0) else {
         return Refusal::NoKind;
     };

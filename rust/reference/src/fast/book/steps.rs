@@ -14,7 +14,7 @@ use super::few;
 use super::walk::{End, Walk};
 
 /// What is set in the two counts of runs if one is below 0.
-const BELOW_0: u16 = 0x8080;
+pub(in crate::fast) const BELOW_0: u16 = 0x8080;
 
 /// The third bits of sixteen triples.
 const THIRD_BITS: u64 = 0x2492_4924_9249_0000;
@@ -27,16 +27,16 @@ const EVERY_OTHER: u64 = 0x03f0_3f03_f03f;
 
 /// What four triples do to the counts of runs.
 #[derive(Clone, Copy)]
-pub(super) struct Four {
+pub(in crate::fast) struct Four {
     /// What they add.
-    sum: u16,
+    pub(in crate::fast) sum: u16,
     /// The least that is added on the way, to each count by itself.
-    least: u16,
+    pub(in crate::fast) least: u16,
 }
 
 impl Four {
     /// Whether they have what they need where there is one run, and leave one.
-    pub(super) const fn leaves_one_run(self) -> bool {
+    pub(in crate::fast) const fn leaves_one_run(self) -> bool {
         self.sum == 0 && self.least == 0
     }
 }
@@ -52,8 +52,14 @@ static FOURS: [Four; 4096] = {
     fours
 };
 
+/// What the four triples do that are in the low 12 bits of a word, looked up.
+#[inline(always)]
+pub(in crate::fast) fn four_at_the_end(word: u64) -> Four {
+    FOURS[(word & 0xfff) as usize]
+}
+
 /// What four triples do, found step by step.
-pub(super) const fn four(bits: usize) -> Four {
+pub(in crate::fast) const fn four(bits: usize) -> Four {
     let (mut p, mut q) = (0i16, 0i16);
     let (mut least_p, mut least_q) = (0, 0);
     let mut left = 4;
@@ -92,7 +98,7 @@ impl Walk for ByFours {
     #[inline(always)]
     fn go(&mut self, word: u64) {
         for shift in [52, 40, 28, 16] {
-            let four = FOURS[(word >> shift & 0xfff) as usize];
+            let four = four_at_the_end(word >> shift);
             self.ever |= self.runs.wrapping_add(four.least);
             self.runs = self.runs.wrapping_add(four.sum);
         }

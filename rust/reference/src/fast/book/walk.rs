@@ -70,9 +70,17 @@ fn many<W: Walk>(kind: u8, window: &[u8; WINDOW]) -> (End, u64) {
     (walk.end(), form.spare(last))
 }
 
+/// The word with the last triples of the record with this kind at the front of a
+/// window, fewer than sixteen, and 010 after them.
+#[inline(always)]
+pub(in crate::fast) fn last_word(kind: u8, window: &[u8; WINDOW]) -> u64 {
+    let triples = usize::from(kind.wrapping_sub(1));
+    OF_LAST[triples % 16].triples(word(window, triples / 16))
+}
+
 /// The word that begins after so many times sixteen triples of a body.
 #[inline(always)]
-fn word(window: &[u8; WINDOW], sixteens: usize) -> u64 {
+pub(in crate::fast) fn word(window: &[u8; WINDOW], sixteens: usize) -> u64 {
     let from = 1 + 6 * sixteens;
     let bytes = window[from..from + 8].try_into();
     u64::from_be_bytes(bytes.expect("8 bytes"))
