@@ -1,9 +1,10 @@
 -- What is answered for an accepted record and two groups whose last positions are known, check by check.
 use mathlib.Core.List.{List}
-use mathlib.Core.Logic.{_≢_, inl, inr}
+use mathlib.Core.Logic.{_≢_, _⊎_, inl, inr}
 use mathlib.Core.Path.{_≡_, sym, ap, subst, _∙_}
 use Prim.Native.Nat.{ℕ, _≤_, _<_}
 use native.Mathlib.Omega.{arith}
+use Rattle.finite.specs.Decide.{le-or-lt}
 use Rattle.record.specs.Labels.{labelAt}
 use Rattle.record.specs.Read.{kindOf, labelsOf}
 use Rattle.record.specs.declared.Refusal.the-variants.{PositionOutside, EmptyGroup, SamePosition}
@@ -29,33 +30,40 @@ module _ {bytes : List ℕ} {n fallen : ℕ} (a : Accepts bytes n fallen) (first
   of-kind : Outside n first second → Outside (kindOf bytes) first second
   of-kind = subst (λ (m : ℕ). Outside m first second) (a .rooms-are)
 
-  pub outside-first : n < one → Refused PositionOutside ≡ groupsAnswer bytes first second
-  outside-first h = demand1-groups-answer bytes first second
-      (outside (a .readable) (of-kind (inl (one, omega arith, omega (arith, one-end .few), (one-end .has (omega arith), h)))))
+  pub past-rooms : (n < one) ⊎ (n < other) → Refused PositionOutside ≡ groupsAnswer bytes first second
+  past-rooms past = demand1-groups-answer bytes first second (outside (a .readable) (of-kind (elim past [
+    | inl h ↦ inl (one, omega arith, omega (arith, one-end .few), (one-end .has (omega arith), h))
+    | inr h ↦ inr (other, omega arith, omega (arith, other-end .few), (other-end .has (omega arith), h))
+  ])))
 
-  pub outside-second : n < other → Refused PositionOutside ≡ groupsAnswer bytes first second
-  outside-second h = demand1-groups-answer bytes first second
-      (outside (a .readable) (of-kind (inr (other, omega arith, omega (arith, other-end .few), (other-end .has (omega arith), h)))))
+  module _ (none-past : ¬ ((n < one) ⊎ (n < other))) where
+    one-few : one ≤ n
+    one-few = elim (le-or-lt one n) [ inl h ↦ h | inr h ↦ absurd (none-past (inl h)) ]
 
-  module _ (one-few : one ≤ n) (other-few : other ≤ n) where
+    other-few : other ≤ n
+    other-few = elim (le-or-lt other n) [ inl h ↦ h | inr h ↦ absurd (none-past (inr h)) ]
+
     inside : ¬ Outside n first second
     inside z = elim z [
-      | inl (k, c, d, (m, h)) ↦ omega (arith, one-end .none-past k c d m)
-      | inr (k, c, d, (m, h)) ↦ omega (arith, other-end .none-past k c d m)
+      | inl (k, c, d, (m, h)) ↦ omega (arith, one-few, one-end .none-past k c d m)
+      | inr (k, c, d, (m, h)) ↦ omega (arith, other-few, other-end .none-past k c d m)
     ]
 
     inside-kind : ¬ Outside (kindOf bytes) first second
     inside-kind = subst (λ (m : ℕ). ¬ Outside m first second) (a .rooms-are) inside
 
-    pub empty-first : one ≡ 0 → Refused EmptyGroup ≡ groupsAnswer bytes first second
-    empty-first e = demand1-groups-answer bytes first second (empty (a .readable) inside-kind (inl (none-empty first one-end e)))
+    pub none-in : (one ≡ 0) ⊎ (other ≡ 0) → Refused EmptyGroup ≡ groupsAnswer bytes first second
+    none-in none = demand1-groups-answer bytes first second (empty (a .readable) inside-kind (elim none [
+      | inl e ↦ inl (none-empty first one-end e)
+      | inr e ↦ inr (none-empty second other-end e)
+    ]))
 
-    pub empty-second : other ≡ 0 → Refused EmptyGroup ≡ groupsAnswer bytes first second
-    empty-second e = demand1-groups-answer bytes first second (empty (a .readable) inside-kind (inr (none-empty second other-end e)))
-
-    module _ (one-some : one ≢ 0) (other-some : other ≢ 0) where
+    module _ (some-in : ¬ ((one ≡ 0) ⊎ (other ≡ 0))) where
       filled : ¬ SomeEmpty first second
-      filled z = elim z [ inl e ↦ some-filled first one-end one-some e | inr e ↦ some-filled second other-end other-some e ]
+      filled z = elim z [
+        | inl e ↦ some-filled first one-end (λ none. some-in (inl none)) e
+        | inr e ↦ some-filled second other-end (λ none. some-in (inr none)) e
+      ]
 
       pub shared-position : Common first second → Refused SamePosition ≡ groupsAnswer bytes first second
       shared-position c = demand1-groups-answer bytes first second (common (a .readable) inside-kind filled c)

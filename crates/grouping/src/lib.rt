@@ -1,4 +1,5 @@
 // Whole groups at once: how the rooms of one group stand to those of another one.
+ghost use mathlib.Core.Logic.{_⊎_};
 ghost use mathlib.Core.Path.{_≡_};
 ghost use Prim.Native.Nat.{_*_, _≤_, _<_};
 ghost use lib.Bits.{bitAnd};
@@ -74,6 +75,20 @@ fn first_position(group: &[u8; 32]) -> usize
 
 // ---- what is refused of two groups
 
+// Whether one of two last positions is past the last of n rooms.
+fn outside(n: usize, one: usize, other: usize) -> bool
+    ensures { λ r. ⌜ Tells r ((n < one) ⊎ (n < other)) ⌝ }
+{
+    (n < one) | (n < other)
+}
+
+// Whether one of two groups has no last position.
+fn empty(one: usize, other: usize) -> bool
+    ensures { λ r. ⌜ Tells r ((one ≡ 0) ⊎ (other ≡ 0)) ⌝ }
+{
+    (one == 0) | (other == 0)
+}
+
 // The bits that two bytes have in common.
 fn shared(one: u8, other: u8) -> u8
     ensures { λ r. ⌜ (r ≡ bitAnd one other) × (r < 256) ⌝ }
@@ -143,16 +158,10 @@ pub fn groups(record: &[u8], first: &[u8; 32], second: &[u8; 32]) -> GroupsAnswe
         Judged::Accepted(n, _) => {
             let one = last_position(first);
             let other = last_position(second);
-            if n < one {
+            if outside(n, one, other) {
                 return GroupsAnswer::Refused(Refusal::PositionOutside);
             }
-            if n < other {
-                return GroupsAnswer::Refused(Refusal::PositionOutside);
-            }
-            if one == 0 {
-                return GroupsAnswer::Refused(Refusal::EmptyGroup);
-            }
-            if other == 0 {
+            if empty(one, other) {
                 return GroupsAnswer::Refused(Refusal::EmptyGroup);
             }
             if in_common(first, second) {
