@@ -138,7 +138,7 @@ pub fn placing_in(
     match admit(record, widths, heights, x.len(), y.len()) {
         Checked::Refused(refusal) => PlacingAnswer::Refused(refusal),
         Checked::Passed(_) => {
-            if placing::keeps(&record[1..], widths, heights, x, y) {
+            if holding::keeps(&record[1..], widths, heights, x, y) {
                 return PlacingAnswer::Accepted;
             }
             PlacingAnswer::Refused(Refusal::BrokenRelation)

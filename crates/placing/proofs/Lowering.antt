@@ -6,7 +6,6 @@ use native.Mathlib.Omega.{arith}
 use native.Mathlib.Numerals.{add-one}
 use lib.ListN.{length, getD, set, replicate}
 use Rattle.finite.specs.Fill.{filled, Filling, filling-none, filling-up, filling-down, filling-end}
-use Rattle.record.specs.Labels.{labelAt}
 use Rattle.record.specs.Record.{tripleIn}
 use Rattle.steps.specs.declared.Turn.{Turn}
 use Rattle.steps.specs.Turn.{Says}
@@ -15,8 +14,8 @@ use Rattle.sizes.specs.Direction.{Direction, across, upward}
 use Rattle.sizes.specs.Lowest.{startAt, neededLength}
 use Rattle.sizes.specs.LowestLaws.{starts-at-furthest-end, start-small, first-start}
 use Rattle.sizes.specs.Lines.{LineAt, line-of-all}
-use Rattle.sizes.specs.Lists.{eachWay, numberAt}
-use Rattle.judging.specs.Walkable.{labelsIn, Walkable}
+use Rattle.judging.specs.Walkable.{Walkable}
+use Rattle.placing.specs.Along as along
 use Rattle.placing.specs.Along.{LowestFor}
 use Rattle.sizes.specs.OneWay.{Walks, accepted-walks}
 use Rattle.sizes.specs.Turned.{TurnFits, Turned, turned-first, turn-fits, turned-next, left-is, bottom-is}
@@ -25,11 +24,11 @@ module _ (body widths heights : List ℕ) where
   abbrev pub rooms : ℕ
   rooms = length widths
 
-  abbrev pub label : ℕ → ℕ
-  label = labelAt (labelsIn body (length widths))
+  abbrev label : ℕ → ℕ
+  label = along.label body widths heights
 
-  abbrev pub sizeOf : Direction → ℕ → ℕ
-  sizeOf way = numberAt (eachWay widths heights way)
+  abbrev sizeOf : Direction → ℕ → ℕ
+  sizeOf = along.sizeOf body widths heights
 
   -- where a room starts
   abbrev pub lowestOf : Direction → ℕ → ℕ

@@ -1,17 +1,14 @@
-// Rooms of real sizes, placed in one walk along the triples of a record's body: their lowest corners, and whether given corners honour all
-// relations.
+// Rooms of real sizes, placed in one walk along the triples of a record's body: their lowest corners, and the needed lengths.
 ghost use mathlib.Core.Path.{_≡_};
 ghost use Prim.Native.Nat.{_+_, _≤_, max};
 ghost use lib.ListN.{length};
-ghost use Rattle.finite.specs.Decide.{Tells};
 ghost use Rattle.record.specs.Labels.{labelAt};
 ghost use Rattle.sizes.specs.Direction.{across, upward};
-ghost use Rattle.sizes.specs.Lists.{eachWay, HonoursAll};
 ghost use Rattle.judging.specs.Walkable.{labelsIn, Walkable};
 ghost use Rattle.placing.specs.Along.{LowestFor};
 
 // A size as a length.
-fn length_of(size: u16) -> u32
+pub fn length_of(size: u16) -> u32
     ensures { λ r. ⌜ (r ≡ size) × (r ≤ 65535) ⌝ }
 {
     size as u32
@@ -27,7 +24,7 @@ fn larger(a: u32, b: u32) -> u32
     a
 }
 
-// ---- the walks along the triples
+// ---- the walk along the triples
 // The line of a room lies at the furthest end of it and of the rooms behind it. Of the current run and of the runs below it and above it
 // the line of the newest room is known, across and up, in a stack for each, the nearest run's on top; under each stack is the outline's
 // line, 0. Each turn stores the current run's lines above the tops, and the counts of runs say how much of a stack is in use. A new room
@@ -85,70 +82,4 @@ pub fn lowest(body: &[u8], widths: &[u16], heights: &[u16], x: &mut [u32], y: &m
         across: right,
         up: top,
     }
-}
-
-// A corner or a size as a wider number: a corner's end may lie beyond 32 bits.
-fn wide(length: u32) -> u64
-    ensures { λ r. ⌜ (r ≡ length) × (r ≤ 4294967295) ⌝ }
-{
-    length as u64
-}
-
-// The further of two ends.
-fn further(a: u64, b: u64) -> u64
-    ensures { λ r. ⌜ r ≡ max a b ⌝ }
-{
-    if b < a {
-        return a;
-    }
-    b
-}
-
-// Where a room ends that begins at a corner.
-fn end_of(corner: u32, size: u16) -> u64
-    ensures { λ r. ⌜ r ≡ corner + size ⌝ }
-{
-    wide(corner) + wide(length_of(size))
-}
-
-// Whether rooms with these corners honour all relations: none begins before the line at which it would start.
-pub fn keeps(body: &[u8], widths: &[u16], heights: &[u16], x: &[u32], y: &[u32]) -> bool
-    requires { ⌜ Walkable (now body) (length (now widths)) × (length (now heights) ≡ length (now widths)) ⌝
-        ∗ ⌜ (length (now x) ≡ length (now widths)) × (length (now y) ≡ length (now widths)) ⌝ }
-    ensures { λ r. ⌜ Tells r (HonoursAll (labelsIn (now (body .entry)) (length (now (widths .entry))))
-        (eachWay (now (widths .entry)) (now (heights .entry))) (eachWay (now (x .entry)) (now (y .entry)))) ⌝ }
-{
-    let mut across_below = [0u64; 256];
-    let mut across_above = [0u64; 256];
-    let mut up_below = [0u64; 256];
-    let mut up_above = [0u64; 256];
-    let mut runs_below = 0;
-    let mut runs_above = 0;
-    let mut right = end_of(x[0], widths[0]);
-    let mut top = end_of(y[0], heights[0]);
-    let mut k = 0;
-    while k + 1 < widths.len() {
-        let turn = steps::turn_of(bits::group(body, k));
-        across_below[runs_below + 1] = right;
-        across_above[runs_above + 1] = right;
-        up_below[runs_below + 1] = top;
-        up_above[runs_above + 1] = top;
-        let below = runs_below + turn.rises;
-        let above = runs_above + turn.falls;
-        let next = k + 1;
-        if wide(x[next]) < across_below[below] {
-            return false;
-        }
-        if wide(y[next]) < up_above[above] {
-            return false;
-        }
-        let beside = across_above[steps::chosen(turn.above, above, 0)];
-        let under = up_below[steps::chosen(turn.below, below, 0)];
-        right = further(end_of(x[next], widths[next]), beside);
-        top = further(end_of(y[next], heights[next]), under);
-        runs_below = below - turn.below;
-        runs_above = above - turn.above;
-        k = next;
-    }
-    true
 }

@@ -14,7 +14,7 @@ use Rattle.packing.proofs.placing_in.Tie as tie
 use Rattle.packing.proofs.placing_in.Reads as reads
 use Rattle.packing.proofs.placing_in.Lts as lts
 use Rattle.packing.proofs.admit.Reads as admit-reads
-use Rattle.placing.proofs.keeps.Reads as keeps-reads
+use Rattle.holding.proofs.keeps.Reads as keeps-reads
 
 abbrev claims : lts.Claims
 claims = (admit-reads.Asked, admit-reads.Learnt, keeps-reads.Asked, keeps-reads.Learnt)

@@ -20,7 +20,7 @@ use Rattle.sizes.specs.Lists.{eachWay, numberAt, HonoursAll}
 use Rattle.judging.specs.Walkable.{labelsIn, Walkable}
 use Rattle.sizes.specs.OneWay.{Walks, accepted-walks}
 use Rattle.sizes.specs.Turned.{TurnFits, Turned, turned-first, turn-fits, turned-next, left-is, bottom-is}
-use Rattle.placing.proofs.Lowering.{label, sizeOf}
+use Rattle.placing.specs.Along.{label, sizeOf}
 
 module _ (body widths heights xs ys : List ℕ) where
   abbrev n : ℕ

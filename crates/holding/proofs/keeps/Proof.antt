@@ -1,4 +1,4 @@
--- `placing::keeps` meets its contract: so far no room begins before the furthest room before it ends, and the lines of all runs are known.
+-- `holding::keeps` meets its contract: so far no room begins before the furthest room before it ends, and the lines of all runs are known.
 use mathlib.Core.Path.{ap, subst, _∙_}
 use Prim.Native.Nat.{suc, _+_, _-_, _<_}
 use native.Mathlib.Omega.{arith}
@@ -9,16 +9,16 @@ use Rattle.record.specs.TripleNumber.{tripleOf, group-triple}
 use Rattle.steps.specs.Turn.{Says}
 use Rattle.sizes.specs.Direction.{across, upward}
 use Rattle.sizes.specs.Turned.{TurnFits, chosen-few}
-use Rattle.placing.proofs.Holding.{honoured-all, all-honoured, Holding, holding-first, holding-fits, broken-across, broken-upward, holding-next, holding-end}
+use Rattle.holding.proofs.Holding.{honoured-all, all-honoured, Holding, holding-first, holding-fits, broken-across, broken-upward, holding-next, holding-end}
 use borrow.Author.Needs.{needs}
-use Rattle.placing.proofs.keeps.Statement.{statement}
-use Rattle.placing.proofs.keeps.Tie as tie
-use Rattle.placing.proofs.keeps.Reads as reads
-use Rattle.placing.proofs.keeps.Lts as lts
+use Rattle.holding.proofs.keeps.Statement.{statement}
+use Rattle.holding.proofs.keeps.Tie as tie
+use Rattle.holding.proofs.keeps.Reads as reads
+use Rattle.holding.proofs.keeps.Lts as lts
 use Rattle.bits.proofs.group.Reads as group-reads
-use Rattle.placing.proofs.end_of.Reads as end-of-reads
-use Rattle.placing.proofs.further.Reads as further-reads
-use Rattle.placing.proofs.wide.Reads as wide-reads
+use Rattle.holding.proofs.end_of.Reads as end-of-reads
+use Rattle.holding.proofs.further.Reads as further-reads
+use Rattle.holding.proofs.wide.Reads as wide-reads
 use Rattle.steps.proofs.chosen.Reads as chosen-reads
 use Rattle.steps.proofs.turn_of.Reads as turn-of-reads
 
