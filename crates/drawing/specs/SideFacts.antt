@@ -1,6 +1,6 @@
 -- Two rooms exchanged: where the first stands on a side of the second, the second stands on the opposite side of the first.
 use mathlib.Core.Logic.{_≢_, ite}
-use mathlib.Core.Path.{_≡_, refl, sym, ap, _∙_}
+use mathlib.Core.Path.{_≡_, refl, ap, _∙_}
 use Prim.Native.Nat.{ℕ, _<_}
 use native.Mathlib.Decide.{decLt}
 use native.Mathlib.Omega.{arith}

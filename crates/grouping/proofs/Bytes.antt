@@ -4,17 +4,17 @@ use mathlib.Core.Bool.{not}
 use mathlib.Core.List.{List}
 use mathlib.Core.Logic.{_≢_, inl, inr}
 use mathlib.Core.Path.{_≡_, refl, sym, ap, subst, _∙_}
-use Prim.Native.Nat.{ℕ, zero, suc, _+_, _-_, _*_, _/_, _%_, _^_, _≤_, _<_, zero-le}
+use Prim.Native.Nat.{ℕ, zero, _+_, _-_, _*_, _/_, _%_, _^_, _≤_, _<_, zero-le}
 use native.Mathlib.Nat.{div-eq-of-lt}
 use native.Mathlib.Decide.{ℕ-discrete}
 use native.Mathlib.Omega.{arith}
-use lib.Bits.{bitAnd, bitOr, and-shr, and-mod, and-le-l, and-le-r, or-add-and, and-zero-l}
+use lib.Bits.{bitAnd, bitOr, and-shr, and-mod, and-le-l, and-le-r, or-add-and}
 use lib.Dec.{eqb}
 use lib.ListN.{getD}
 use lib.Pow.{pow-pos}
 use Rattle.finite.specs.BitTable.{digit}
 use Rattle.finite.specs.Decide.{Tells, tells-iff, tells-not, tells-equal, le-or-lt, eq-or-ne, stable}
-use Rattle.finite.specs.Search.{Some, Each, dec-some}
+use Rattle.finite.specs.Search.{Some, dec-some}
 use Rattle.groups.specs.Group.{Member, EachIn, Common}
 
 -- ---- bytes of 0

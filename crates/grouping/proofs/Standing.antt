@@ -15,7 +15,6 @@ use Rattle.groups.specs.Group.{Member, EachIn, SomeIn, Empty}
 use Rattle.groups.specs.Answer.{standing}
 use Rattle.groups.specs.StandingFacts.{some-member, member-inside, apart, Says, says→standing, common-exchanged, exchanged, says-exchanged}
 use Rattle.groups.specs.Pairs.{Ahead, SomeBefore, interleaved-mixed, all-left, all-below, both-mixed}
-use Rattle.groups.specs.declared.GroupsAnswer.{GroupsAnswer}
 use Rattle.groups.specs.declared.GroupsAnswer.the-variants.{Related, Mixed}
 use Rattle.grouping.specs.Ends.{LastIn, FirstIn, Fits, verdictOf}
 
@@ -25,10 +24,10 @@ module _ (some-left some-below : Bool) (left below : Side) where
   one-relation e = sym (ap (λ (b : Bool). verdictOf some-left b left below) e)
 
   pub other-relation : some-below ≡ true → some-left ≡ false → Related below ≡ verdictOf some-left some-below left below
-  other-relation e d = λ i. sym (λ j. verdictOf (d j) (e j) left below) i
+  other-relation e d = sym (λ j. verdictOf (d j) (e j) left below)
 
   pub both-relations : some-below ≡ true → some-left ≡ true → Mixed ≡ verdictOf some-left some-below left below
-  both-relations e d = λ i. sym (λ j. verdictOf (d j) (e j) left below) i
+  both-relations e d = sym (λ j. verdictOf (d j) (e j) left below)
 
 -- ---- the last position and the first
 pub last-none : (group : List ℕ) (k : ℕ) → EachIn group (λ j. j ≤ k) → {bit : ℕ} → 0 < k → Marks bit (Member group (suc (k - 1))) → ¬ (bit ≡ 1)

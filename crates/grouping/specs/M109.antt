@@ -1,13 +1,12 @@
 -- M-109 with the question: "For two groups of one room each this is the old relation without the word direct."
 use mathlib.Core.List.{List}
 use mathlib.Core.Logic.{_≢_, _⊎_, inl, inr}
-use mathlib.Core.Path.{_≡_, sym, ap, subst, _∙_}
-use Prim.Native.Nat.{ℕ, _≤_, _<_}
+use mathlib.Core.Path.{_≡_, sym, subst, _∙_}
+use Prim.Native.Nat.{ℕ, _≤_}
 use native.Mathlib.Omega.{arith}
 use Rattle.record.specs.Labels.{labelAt}
 use Rattle.record.specs.Read.{kindOf, labelsOf}
 use Rattle.drawing.specs.Side.{sideOf}
-use Rattle.drawing.specs.declared.Relation.{Relation}
 use Rattle.groups.specs.Group.{Member, EachIn, Outside, SomeEmpty, Common}
 use Rattle.groups.specs.Answer.{groupsAnswer}
 use Rattle.groups.specs.Demand1.{GroupsSays, refused-record, outside, common, related, demand1-groups-answer}

@@ -5,8 +5,6 @@ use mathlib.Core.Logic.{_↔_}
 use mathlib.Core.Path.{_≡_}
 use Prim.Native.Nat.{ℕ, _≤_, _<_}
 use native.Mathlib.Omega.{arith}
-use Rattle.drawing.specs.declared.Side.{Side}
-use Rattle.drawing.specs.declared.Side.the-variants.{Left, Right, Above, Below}
 use Rattle.groups.specs.Group.{Member, EachIn}
 
 -- of the numbers that g gives to the rooms of a group, `least` and `greatest` are the extremes

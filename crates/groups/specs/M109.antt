@@ -2,16 +2,16 @@
 -- "mixed" otherwise." At most one side can be answered; with the groups exchanged it is the opposite one; and what is answered for a record
 -- holds in every accepted room list which has it. That for groups of one room each it is the question's side is a theorem of `grouping`.
 use mathlib.Core.List.{List}
-use mathlib.Core.Logic.{_↔_, ⊎-swap}
-use mathlib.Core.Path.{_≡_, sym, subst, subst₂}
+use mathlib.Core.Logic.{inl, inr, _↔_, ⊎-swap}
+use mathlib.Core.Path.{_≡_, sym, subst}
 use Prim.Native.Nat.{ℕ}
 use lib.ListN.{length}
 use Rattle.record.specs.Labels.{labelAt, EachOnce}
-use Rattle.record.specs.Read.{kindOf, labelsOf}
+use Rattle.record.specs.Read.{labelsOf}
 use Rattle.drawing.specs.declared.Room.{Room}
 use Rattle.drawing.specs.declared.Side.{Side}
 use Rattle.rooms.specs.Causes.{AcceptedRooms}
-use Rattle.rooms.specs.LabelList.{labelList, recordOfRooms}
+use Rattle.rooms.specs.LabelList.{recordOfRooms}
 use Rattle.rooms.specs.Demand3.{record-of-rooms-readable, label-list-back, kind-of-rooms}
 use Rattle.groups.specs.Group.{Outside, SomeEmpty, Common}
 use Rattle.groups.specs.Standing.{AllStand}
@@ -27,6 +27,11 @@ use Rattle.groups.specs.declared.GroupsAnswer.the-variants.{Related, Mix
 pub m109-at-most-one-side : (f : ℕ → ℕ) (first second : List ℕ) → ¬ SomeEmpty first second → {one other : Side}
     → AllStand f first second one → AllStand f first second other → one ≡ other
 m109-at-most-one-side f first second filled = at-most-one-side f first second filled
+
+-- an empty group has no position in common with another one: 27 and 17 never both have a cause
+pub m109-empty-have-none-in-common : (first second : List ℕ) → SomeEmpty first second → ¬ Common first second
+m109-empty-have-none-in-common first second (inl none) (k, a, b, (m, l)) = none (k, a, b, m)
+m109-empty-have-none-in-common first second (inr none) (k, a, b, (m, l)) = none (k, a, b, l)
 
 -- with the groups exchanged the answer is the opposite side, or mixed, or the same refusal
 pub m109-exchanged : (bytes first second : List ℕ) → groupsAnswer bytes second first ≡ exchanged (groupsAnswer bytes first second)

@@ -1,11 +1,10 @@
 -- What is answered for a record and two groups holds in every accepted room list which has the record, for the rooms at the positions.
 use mathlib.Core.List.{List}
 use mathlib.Core.Logic.{_≢_, inl, inr, _↔_}
-use mathlib.Core.Path.{_≡_, sym, ap, subst, subst₂, _∙_}
+use mathlib.Core.Path.{_≡_, sym, subst, subst₂, _∙_}
 use Prim.Native.Nat.{ℕ, _≤_, _<_}
 use native.Mathlib.Omega.{arith}
 use lib.ListN.{length}
-use Rattle.finite.specs.Search.{Some}
 use Rattle.record.specs.Labels.{labelAt}
 use Rattle.drawing.specs.Side.{sideOf}
 use Rattle.drawing.specs.declared.Room.{Room}

@@ -1,14 +1,13 @@
 -- The rooms of two groups, pair by pair, where nothing is refused: a room of the first stands left of one of the second, or below it, if it
 -- stands before that across or upward, and else the other way round. So where all positions of the first come before those of the second,
 -- it is enough to know whether some room stands before another one across, and whether one does upward.
-use mathlib.Core.Bool.{Bool, true, false}
 use mathlib.Core.List.{List}
 use mathlib.Core.Logic.{_≢_, _⊎_, inl, inr, _↔_, ite}
 use mathlib.Core.Path.{_≡_, refl, sym, ap, _∙_}
 use Prim.Native.Nat.{ℕ, _≤_, _<_}
 use native.Mathlib.Decide.{decLt}
 use native.Mathlib.Omega.{arith}
-use Rattle.finite.specs.Decide.{Tells, le-or-lt}
+use Rattle.finite.specs.Decide.{le-or-lt}
 use Rattle.record.specs.Labels.{EachOnce}
 use Rattle.drawing.specs.Side.{sideOf}
 use Rattle.drawing.specs.SideFacts.{exchange-side}
@@ -16,7 +15,7 @@ use Rattle.drawing.specs.declared.Side.{Side}
 use Rattle.drawing.specs.declared.Side.the-variants.{Left, Right, Above, Below}
 use Rattle.sizes.specs.Direction.{Direction, across, upward, Before}
 use Rattle.sizes.specs.SideFacts.{left-iff-other-right, below-iff-other-above}
-use Rattle.groups.specs.Group.{Member, EachIn, SomeIn, Outside, SomeEmpty, Common}
+use Rattle.groups.specs.Group.{Member, EachIn, SomeIn, Outside, Common}
 use Rattle.groups.specs.Standing.{AllStand}
 use Rattle.groups.specs.StandingFacts.{member-inside, apart, Says}
 use Rattle.groups.specs.declared.GroupsAnswer.the-variants.{Mixed}

@@ -9,7 +9,7 @@ use Rattle.finite.specs.First.{dec-each}
 use Rattle.drawing.specs.Side.{sideOf}
 use Rattle.drawing.specs.declared.Side.{Side}
 use Rattle.drawing.specs.declared.Side.the-variants.{Left, Right, Above, Below}
-use Rattle.groups.specs.Group.{Member, dec-member, EachIn}
+use Rattle.groups.specs.Group.{dec-member, EachIn}
 
 -- every room of the first stands on that side of every room of the second; f is the label at a position
 abbrev pub AllStand : (f : ℕ → ℕ) (first second : List ℕ) → Side → Type 0

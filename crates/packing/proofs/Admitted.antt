@@ -2,13 +2,11 @@
 use mathlib.Core.List.{List}
 use mathlib.Core.Logic.{inl, inr}
 use mathlib.Core.Path.{_≡_, sym, subst}
-use Prim.Native.Nat.{ℕ, _≤_}
+use Prim.Native.Nat.{ℕ}
 use native.Mathlib.Decide.{ℕ-discrete}
-use native.Mathlib.Omega.{arith}
 use Rattle.finite.specs.Decide.{stable}
 use Rattle.record.specs.declared.Refusal.the-variants as refusal
 use Rattle.record.specs.Read.{kindOf}
-use Rattle.record.specs.Checked.{Readable}
 use Rattle.judging.specs.Judge.{Accepts}
 use Rattle.sizes.specs.Direction.{Direction}
 use Rattle.sizes.specs.Lists.{EachWay}

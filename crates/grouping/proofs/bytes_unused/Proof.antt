@@ -1,12 +1,11 @@
+-- `grouping::bytes_unused` meets its contract: so far no position of the group is in a byte that was passed.
 use Prim.Native.Nat.{_-_, _*_, _≤_, _<_}
 use native.Mathlib.Omega.{arith}
 use Rattle.groups.specs.Group.{EachIn}
-use Rattle.grouping.proofs.Bytes.{none-past-byte, none-before-byte}
+use Rattle.grouping.proofs.Bytes.{none-before-byte}
 use borrow.Author.Needs.{needs}
 use Rattle.grouping.proofs.bytes_unused.Statement.{statement}
 use Rattle.grouping.proofs.bytes_unused.Tie as tie
-use Rattle.grouping.proofs.bytes_unused.Reads as reads
-use Rattle.grouping.proofs.bytes_unused.Lts as lts
 
 abbrev Inv-loop : tie.InvT-loop
 Inv-loop group unused₀ unused = (unused ≤ 32) × EachIn group (λ k. 8 * unused < k)

@@ -1,12 +1,11 @@
-use Prim.Native.Nat.{_-_, _*_, _≤_, _<_}
+-- `grouping::bytes_used` meets its contract: so far no position of the group is in a byte that was passed from the end.
+use Prim.Native.Nat.{_*_, _≤_}
 use native.Mathlib.Omega.{arith}
 use Rattle.groups.specs.Group.{EachIn}
-use Rattle.grouping.proofs.Bytes.{none-past-byte, none-before-byte}
+use Rattle.grouping.proofs.Bytes.{none-past-byte}
 use borrow.Author.Needs.{needs}
 use Rattle.grouping.proofs.bytes_used.Statement.{statement}
 use Rattle.grouping.proofs.bytes_used.Tie as tie
-use Rattle.grouping.proofs.bytes_used.Reads as reads
-use Rattle.grouping.proofs.bytes_used.Lts as lts
 
 abbrev Inv-loop : tie.InvT-loop
 Inv-loop group used₀ used = (used ≤ 32) × EachIn group (λ k. k ≤ 8 * used)

@@ -1,3 +1,4 @@
+-- `grouping::first_position` meets its contract: so far no position that was looked at is in the group.
 use Prim.Native.Nat.{_-_, _≤_, _<_}
 use native.Mathlib.Omega.{arith}
 use Rattle.groups.specs.Group.{EachIn}
@@ -5,10 +6,6 @@ use Rattle.grouping.proofs.Standing.{first-none, first-found}
 use borrow.Author.Needs.{needs}
 use Rattle.grouping.proofs.first_position.Statement.{statement}
 use Rattle.grouping.proofs.first_position.Tie as tie
-use Rattle.grouping.proofs.first_position.Reads as reads
-use Rattle.grouping.proofs.first_position.Lts as lts
-use Rattle.grouping.proofs.bytes_unused.Reads as bytes-unused-reads
-use Rattle.relating.proofs.member.Reads as member-reads
 
 abbrev Inv-loop : tie.InvT-loop
 Inv-loop group i₀ i = (i ≤ 256) × EachIn group (λ j. i < j)

@@ -10,7 +10,6 @@ use Rattle.judging.specs.Walkable.{readable-has-bytes, readable-walkable}
 use Rattle.judging.specs.declared.Judged.{Judged}
 use Rattle.groups.specs.Group.{Common}
 use Rattle.groups.specs.Demand1.{refused-record, demand1-groups-answer}
-use Rattle.grouping.specs.Ends.{Fits}
 use Rattle.grouping.proofs.Asking.{past-rooms, none-in, shared-position, fits, answered}
 use borrow.Author.Needs.{needs}
 use Rattle.grouping.proofs.groups.Statement.{statement}

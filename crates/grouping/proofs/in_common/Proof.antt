@@ -1,12 +1,11 @@
+-- `grouping::in_common` meets its contract: what the bytes so far have in common is not 0 exactly if some position of theirs is in both
+-- groups.
 use Prim.Native.Nat.{_-_, _≤_}
 use native.Mathlib.Omega.{arith}
 use Rattle.grouping.proofs.Bytes.{Looked, looked-none, looked-more, looked-all}
 use borrow.Author.Needs.{needs}
 use Rattle.grouping.proofs.in_common.Statement.{statement}
 use Rattle.grouping.proofs.in_common.Tie as tie
-use Rattle.grouping.proofs.in_common.Reads as reads
-use Rattle.grouping.proofs.in_common.Lts as lts
-use Rattle.grouping.proofs.shared.Reads as shared-reads
 
 abbrev Inv-loop : tie.InvT-loop
 Inv-loop first second both₀ i₀ both i = (i ≤ 32) × Looked first second i both

@@ -1,14 +1,11 @@
-use Prim.Native.Nat.{_-_, _≤_, _<_}
+-- `grouping::last_position` meets its contract: so far no position past the one that is looked at is in the group.
+use Prim.Native.Nat.{_≤_}
 use native.Mathlib.Omega.{arith}
 use Rattle.groups.specs.Group.{EachIn}
 use Rattle.grouping.proofs.Standing.{last-none, last-found}
 use borrow.Author.Needs.{needs}
 use Rattle.grouping.proofs.last_position.Statement.{statement}
 use Rattle.grouping.proofs.last_position.Tie as tie
-use Rattle.grouping.proofs.last_position.Reads as reads
-use Rattle.grouping.proofs.last_position.Lts as lts
-use Rattle.grouping.proofs.bytes_used.Reads as bytes-used-reads
-use Rattle.relating.proofs.member.Reads as member-reads
 
 abbrev Inv-loop : tie.InvT-loop
 Inv-loop group k₀ k = (k ≤ 256) × EachIn group (λ j. j ≤ k)

@@ -1,11 +1,9 @@
+-- `grouping::shared` meets its contract: what a byte has in common with another one is no larger than it.
 use mathlib.Core.Path.{refl}
 use native.Mathlib.Omega.{arith}
 use lib.Bits.{and-le-l}
-use borrow.Author.Needs.{needs}
 use Rattle.grouping.proofs.shared.Statement.{statement}
 use Rattle.grouping.proofs.shared.Tie as tie
-use Rattle.grouping.proofs.shared.Reads as reads
-use Rattle.grouping.proofs.shared.Lts as lts
 
 returns : tie.Need-returns
 returns c = (refl, omega (arith, and-le-l (c .args .one) (c .args .other), c .fits .one))

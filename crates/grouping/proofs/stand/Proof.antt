@@ -1,3 +1,5 @@
+-- `grouping::stand` meets its contract: by the extremes of their positions the groups come one after the other, or they are mixed; and in
+-- the first case the relations that occur tell the side.
 use mathlib.Core.Logic.{inl, inr}
 use mathlib.Core.Path.{_∙_}
 use Prim.Native.Nat.{ℕ}

@@ -1,10 +1,8 @@
+-- `grouping::verdict` meets its contract, for each of the three answers.
 use Rattle.finite.specs.Decide.{not-true, not-false}
 use Rattle.grouping.proofs.Standing.{one-relation, other-relation, both-relations}
-use borrow.Author.Needs.{needs}
 use Rattle.grouping.proofs.verdict.Statement.{statement}
 use Rattle.grouping.proofs.verdict.Tie as tie
-use Rattle.grouping.proofs.verdict.Reads as reads
-use Rattle.grouping.proofs.verdict.Lts as lts
 
 returns : tie.Need-returns
 returns c = let s = c .before .before .args in one-relation (s .seen .left) (s .seen .below) (s .left) (s .below) (not-true (s .seen .below) (c .if1 .taken))

@@ -11,9 +11,6 @@ use Rattle.finite.specs.Marks.{Marks}
 use borrow.Author.Needs.{needs}
 use Rattle.relating.proofs.member.Statement.{statement}
 use Rattle.relating.proofs.member.Tie as tie
-use Rattle.relating.proofs.member.Reads as reads
-use Rattle.relating.proofs.member.Lts as lts
-use Rattle.steps.proofs.wide.Reads as wide-reads
 
 -- a digit marks that it is 1
 marks-digit : (byte i : ℕ) {bit : ℕ} → bit ≡ digit byte i → Marks bit (digit byte i ≡ 1)
