@@ -131,15 +131,7 @@ impl Refusal {
 
     /// What a record is refused with where its tree is asked for, in the
     /// request's order, before 15.
-    pub const OF_TREES: [Self; 7] = [
-        Self::NoKind,
-        Self::BodyShort,
-        Self::BytesAfter,
-        Self::SpareBit,
-        Self::RunMissing,
-        Self::RunsLeft,
-        Self::NotSlicing,
-    ];
+    pub const OF_TREES: [Self; 7] = Self::of_records_and([Self::NotSlicing]);
 
     /// What a text is refused with, in the request's order, before 15.
     pub const OF_TEXTS: [Self; 5] = [
@@ -187,42 +179,36 @@ impl Refusal {
 
     /// What a record and the sizes of its rooms are refused with, in the
     /// request's order, before 15 where corners are written.
-    pub const OF_SIZES: [Self; 8] = [
-        Self::NoKind,
-        Self::BodyShort,
-        Self::BytesAfter,
-        Self::SpareBit,
-        Self::RunMissing,
-        Self::RunsLeft,
-        Self::LengthDiffers,
-        Self::ZeroSize,
-    ];
+    pub const OF_SIZES: [Self; 8] = Self::of_records_and([Self::LengthDiffers, Self::ZeroSize]);
 
     /// What a placing is refused with, in the request's order.
-    pub const OF_PLACINGS: [Self; 9] = [
-        Self::NoKind,
-        Self::BodyShort,
-        Self::BytesAfter,
-        Self::SpareBit,
-        Self::RunMissing,
-        Self::RunsLeft,
-        Self::LengthDiffers,
-        Self::ZeroSize,
-        Self::RelationBroken,
-    ];
+    pub const OF_PLACINGS: [Self; 9] =
+        Self::of_records_and([Self::LengthDiffers, Self::ZeroSize, Self::RelationBroken]);
 
     /// What a record and two groups are refused with, in the request's order.
-    pub const OF_GROUPS: [Self; 9] = [
-        Self::NoKind,
-        Self::BodyShort,
-        Self::BytesAfter,
-        Self::SpareBit,
-        Self::RunMissing,
-        Self::RunsLeft,
+    pub const OF_GROUPS: [Self; 9] = Self::of_records_and([
         Self::PositionOutside,
         Self::EmptyGroup,
         Self::PositionsEqual,
-    ];
+    ]);
+
+    /// Those of a record, and then these.
+    const fn of_records_and<const MORE: usize, const ALL: usize>(
+        more: [Self; MORE],
+    ) -> [Self; ALL] {
+        let mut all = [Self::NoKind; ALL];
+        let mut i = 0;
+        while i < ALL {
+            let of_records = Self::OF_RECORDS.len();
+            all[i] = if i < of_records {
+                Self::OF_RECORDS[i]
+            } else {
+                more[i - of_records]
+            };
+            i += 1;
+        }
+        all
+    }
 
     /// The refusal's number in the table.
     #[must_use]
