@@ -2,12 +2,13 @@
 -- to whether some number has been found.
 use mathlib.Core.Path.{_≡_, refl, sym, subst, _∙_}
 use mathlib.Core.Logic.{_⊎_, inl, inr}
-use Prim.Native.Nat.{ℕ, _+_, _*_, _≤_, zero-le}
+use Prim.Native.Nat.{ℕ, zero, suc, _+_, _*_, _≤_, max, zero-le}
 use native.Mathlib.Omega.{arith}
 use lib.Bits.{bitAnd, bitOr}
 use lib.Dec.{eqb}
 use Rattle.finite.specs.Decide.{Tells, eq-or-ne, tells-equal, tells-iff}
 use Rattle.finite.specs.Search.{Some}
+use Rattle.finite.specs.Count.{indicator}
 
 -- the bit is 1 where the statement holds, else 0
 abbrev pub Marks : ℕ → Type 0 → Type 0
@@ -16,6 +17,22 @@ Marks bit A = ((bit ≡ 1) × A) ⊎ ((bit ≡ 0) × (¬ A))
 pub marks-le : {A : Type 0} {a : ℕ} → Marks a A → a ≤ 1
 marks-le (inl (e, h)) = omega arith
 marks-le (inr (e, h)) = omega arith
+
+-- the number that tells whether a decided statement holds marks it
+pub marks-indicator : {A : Type 0} (d : Dec A) → Marks (indicator d) A
+unfolding indicator
+marks-indicator (yes a) = inl (refl, a)
+marks-indicator (no h) = inr (refl, h)
+
+-- two bits or-ed are the larger one
+pub or-is-max : (a b : ℕ) → a ≤ 1 → b ≤ 1 → bitOr a b ≡ max a b
+or-is-max zero zero small also = refl
+or-is-max zero (suc zero) small also = refl
+or-is-max (suc zero) zero small also = refl
+or-is-max (suc zero) (suc zero) small also = refl
+or-is-max zero (suc (suc b)) small also = absurd (omega arith)
+or-is-max (suc zero) (suc (suc b)) small also = absurd (omega arith)
+or-is-max (suc (suc a)) b small also = absurd (omega arith)
 
 -- a product marks that both hold
 pub marks-both : {A B : Type 0} {a b : ℕ} → Marks a A → Marks b B → Marks (a * b) (A × B)

@@ -11,12 +11,12 @@ use Rattle.record.specs.declared.Refusal.the-variants.{PositionOutside, EmptyGr
 use Rattle.judging.specs.Judge.{Accepts}
 use Rattle.judging.specs.Passed.{tail}
 use Rattle.judging.specs.Walkable.{labelsIn, labels-in-body}
-use Rattle.groups.specs.Group.{Outside, Empty, SomeEmpty, Common}
+use Rattle.groups.specs.Group.{Outside, Empty, SomeEmpty, Common, Fits}
 use Rattle.groups.specs.Answer.{standing, groupsAnswer}
 use Rattle.groups.specs.StandingFacts.{standing-says}
 use Rattle.groups.specs.Demand1.{Asked, outside, empty, common, asked-answer, demand1-groups-answer}
 use Rattle.groups.specs.declared.GroupsAnswer.the-variants.{Refused}
-use Rattle.grouping.specs.Ends.{LastIn, Fits}
+use Rattle.grouping.specs.Ends.{LastIn}
 
 none-empty : (group : List ℕ) {last : ℕ} → LastIn group last → last ≡ 0 → Empty group
 none-empty group end e (k, a, b, m) = omega (arith, end .none-past k a b m)
@@ -73,7 +73,7 @@ module _ {bytes : List ℕ} {n fallen : ℕ} (a : Accepts bytes n fallen) (first
         fits = record { inside = inside; filled = filled; apart = apart }
 
         asked : Asked bytes first second
-        asked = record { readable = a .readable; inside = inside-kind; filled = filled; apart = apart }
+        asked = record { readable = a .readable; fits = subst (λ (m : ℕ). Fits m first second) (a .rooms-are) fits }
 
         pub answered : standing (labelAt (labelsIn (tail bytes) n)) first second ≡ groupsAnswer bytes first second
         answered =

@@ -4,28 +4,22 @@ use mathlib.Core.Bool.{not}
 use mathlib.Core.List.{List}
 use mathlib.Core.Logic.{_≢_, inl, inr}
 use mathlib.Core.Path.{_≡_, refl, sym, ap, subst, _∙_}
-use Prim.Native.Nat.{ℕ, zero, _+_, _-_, _*_, _/_, _%_, _^_, _≤_, _<_, zero-le}
-use native.Mathlib.Nat.{div-eq-of-lt}
-use native.Mathlib.Decide.{ℕ-discrete}
+use Prim.Native.Nat.{ℕ, zero, _+_, _-_, _*_, _/_, _%_, _≤_, _<_, zero-le}
 use native.Mathlib.Omega.{arith}
-use lib.Bits.{bitAnd, bitOr, and-shr, and-mod, and-le-l, and-le-r, or-add-and}
+use lib.Bits.{bitAnd, bitOr, and-le-l, and-le-r, or-add-and}
 use lib.Dec.{eqb}
 use lib.ListN.{getD}
-use lib.Pow.{pow-pos}
-use Rattle.finite.specs.BitTable.{digit}
-use Rattle.finite.specs.Decide.{Tells, tells-iff, tells-not, tells-equal, le-or-lt, eq-or-ne, stable}
-use Rattle.finite.specs.Search.{Some, dec-some}
+use Rattle.finite.specs.BitTable.{digit, digit-zero, digit-and, some-digit}
+use Rattle.finite.specs.Decide.{Tells, tells-iff, tells-not, tells-equal, le-or-lt, eq-or-ne}
+use Rattle.finite.specs.Search.{Some}
 use Rattle.groups.specs.Group.{Member, EachIn, Common}
 
 -- ---- bytes of 0
-zero-digit : (i : ℕ) → digit 0 i ≡ 0
-zero-digit i = ap (λ (x : ℕ). x % 2) (div-eq-of-lt (pow-pos i))
-
 -- no position of the group is in a byte of 0
 pub zero-byte : (group : List ℕ) (at : ℕ) → getD group at 0 ≡ 0 → (k : ℕ) → Member group k → (k - 1) / 8 ≢ at
 zero-byte group at e k m same =
     let none : digit (getD group ((k - 1) / 8) 0) ((k - 1) % 8) ≡ 0 = ap (λ (at : ℕ). digit (getD group at 0) ((k - 1) % 8)) same
-    ∙ ap (λ (byte : ℕ). digit byte ((k - 1) % 8)) e ∙ zero-digit ((k - 1) % 8) in
+    ∙ ap (λ (byte : ℕ). digit byte ((k - 1) % 8)) e ∙ digit-zero ((k - 1) % 8) in
     omega (arith, m, none)
 
 -- ---- the positions that are looked at from the end
@@ -44,29 +38,6 @@ none-before-byte group unused all e k a b m = elim (le-or-lt k (8 * (unused + 1)
 ]
 
 -- ---- bytes with a common bit
-digit-and : (a b i : ℕ) → digit (bitAnd a b) i ≡ bitAnd (digit a i) (digit b i)
-digit-and a b i = ap (λ (x : ℕ). x % 2) (and-shr a b i) ∙ and-mod (a / 2 ^ i) (b / 2 ^ i) 1
-
--- a byte that is not 0 has a digit that is not
-some-digit : (x : ℕ) → x < 256 → x ≢ 0 → Some (λ i. digit x i ≡ 1) 0 8
-some-digit x small not = stable (dec-some (λ i. digit x i ≡ 1) (λ i. ℕ-discrete (digit x i) 1) 0 8) (λ none. not (zero-is none))
-  where
-    off : ¬ Some (λ i. digit x i ≡ 1) 0 8 → (i : ℕ) → i < 8 → digit x i ≡ 0
-    off none i h = let one : digit x i ≢ 1 = λ e. none (i, zero-le, h, e) in omega arith
-
-    zero-is : ¬ Some (λ i. digit x i ≡ 1) 0 8 → x ≡ 0
-    zero-is none =
-        let a : x ≡ 2 * (x / 2) = let o = off none 0 (omega arith) in omega arith in
-        let b : x / 2 ≡ 2 * (x / 4) = let o = off none 1 (omega arith) in omega arith in
-        let c : x / 4 ≡ 2 * (x / 8) = let o = off none 2 (omega arith) in omega arith in
-        let d : x / 8 ≡ 2 * (x / 16) = let o = off none 3 (omega arith) in omega arith in
-        let e : x / 16 ≡ 2 * (x / 32) = let o = off none 4 (omega arith) in omega arith in
-        let f : x / 32 ≡ 2 * (x / 64) = let o = off none 5 (omega arith) in omega arith in
-        let g : x / 64 ≡ 2 * (x / 128) = let o = off none 6 (omega arith) in omega arith in
-        let h : x / 128 ≡ 2 * (x / 256) = let o = off none 7 (omega arith) in omega arith in
-        let k : x / 256 ≡ 0 = omega arith in
-        omega (arith, a, b, c, d, e, f, g, h, k)
-
 -- two digits are both 1 exactly if they are 1 when and-ed
 both-ones : (a b : ℕ) → a < 2 → b < 2 → bitAnd a b ≡ 1 → (a ≡ 1) × (b ≡ 1)
 both-ones a b h k e = (omega (arith, and-le-l a b), omega (arith, and-le-r a b))
@@ -86,7 +57,7 @@ module _ (first second : List ℕ) where
     omega arith,
     λ e.
         let both : digit (sharedAt ((k - 1) / 8)) ((k - 1) % 8) ≡ 1 = digit-and (getD first ((k - 1) / 8) 0) (getD second ((k - 1) / 8) 0) ((k - 1) % 8) ∙ (λ i. bitAnd (m i) (l i)) in
-        omega (arith, both, ap (λ (x : ℕ). digit x ((k - 1) % 8)) e ∙ zero-digit ((k - 1) % 8)),
+        omega (arith, both, ap (λ (x : ℕ). digit x ((k - 1) % 8)) e ∙ digit-zero ((k - 1) % 8)),
   )
 
   pub shared→common : ((at : ℕ) → at < 32 → sharedAt at < 256) → SharedBefore 32 → Common first second

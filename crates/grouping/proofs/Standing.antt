@@ -1,7 +1,7 @@
 -- From the extremes of positions and the relations that occur to the answer.
 use mathlib.Core.Bool.{Bool, true, false}
 use mathlib.Core.List.{List}
-use mathlib.Core.Logic.{_≢_, inl, inr, ⊎-swap}
+use mathlib.Core.Logic.{_≢_, inl, inr}
 use mathlib.Core.Path.{_≡_, refl, sym, ap, _∙_}
 use Prim.Native.Nat.{ℕ, suc, _+_, _-_, _≤_, _<_}
 use native.Mathlib.Omega.{arith}
@@ -11,12 +11,12 @@ use Rattle.record.specs.Labels.{EachOnce}
 use Rattle.drawing.specs.declared.Side.{Side}
 use Rattle.drawing.specs.declared.Side.the-variants.{Left, Right, Above, Below}
 use Rattle.sizes.specs.Direction.{across, upward}
-use Rattle.groups.specs.Group.{Member, EachIn, SomeIn, Empty}
+use Rattle.groups.specs.Group.{Member, EachIn, SomeIn, Empty, Fits}
 use Rattle.groups.specs.Answer.{standing}
-use Rattle.groups.specs.StandingFacts.{some-member, member-inside, apart, Says, says→standing, common-exchanged, exchanged, says-exchanged}
-use Rattle.groups.specs.Pairs.{Ahead, SomeBefore, interleaved-mixed, all-left, all-below, both-mixed}
+use Rattle.groups.specs.StandingFacts.{some-member, member-inside, apart, Says, says→standing, fits-exchanged, exchanged, says-exchanged}
+use Rattle.groups.specs.Pairs.{Ahead, SomePair, SomeBefore, interleaved-mixed, all-one-way, both-mixed}
 use Rattle.groups.specs.declared.GroupsAnswer.the-variants.{Related, Mixed}
-use Rattle.grouping.specs.Ends.{LastIn, FirstIn, Fits, verdictOf}
+use Rattle.grouping.specs.Ends.{LastIn, FirstIn, verdictOf}
 
 -- ---- which relations occur
 module _ (some-left some-below : Bool) (left below : Side) where
@@ -80,9 +80,9 @@ module _ (f : ℕ → ℕ) (n : ℕ) (once : EachOnce f n) (first second : List 
 
   says-ahead : Ahead first second → (some-left some-below : Bool) → Tells some-left (SomeBefore f across first second)
       → Tells some-below (SomeBefore f upward first second) → Says f first second (verdictOf some-left some-below Left Below)
-  says-ahead before some-left false l b = all-left f n once first second (fits .inside) (fits .apart) before b
-  says-ahead before false true l b = all-below f n once first second (fits .inside) (fits .apart) before l
-  says-ahead before true true l b = both-mixed f n once first second (fits .inside) (fits .apart) l b
+  says-ahead before some-left false l b = all-one-way f n once first second fits across before b
+  says-ahead before false true l b = all-one-way f n once first second fits upward before l
+  says-ahead before true true l b = both-mixed f n once first second fits l b
 
   pub standing-ahead : Ahead first second → (some-left some-below : Bool) → Tells some-left (SomeBefore f across first second)
       → Tells some-below (SomeBefore f upward first second) → verdictOf some-left some-below Left Below ≡ standing f first second
@@ -110,7 +110,7 @@ module _ (f : ℕ → ℕ) (n : ℕ) (once : EachOnce f n) (first second : List 
         apart-at : {i j : ℕ} → 1 ≤ i → i ≤ 256 → Member first i → Member second j → i ≢ j
         apart-at a b m l = apart first second (fits .apart) a (omega arith) m l
 
-        before : SomeIn first (λ i. SomeIn second (λ j. i < j))
+        before : SomePair first second (λ i j. i < j)
         before = (
           one-first,
           one-start .from,
@@ -129,7 +129,7 @@ module _ (f : ℕ → ℕ) (n : ℕ) (once : EachOnce f n) (first second : List 
           ),
         )
 
-        after : SomeIn first (λ i. SomeIn second (λ j. j < i))
+        after : SomePair first second (λ i j. j < i)
         after = (
           one-last,
           one-high,
@@ -158,13 +158,7 @@ pub standing-behind : (f : ℕ → ℕ) (n : ℕ) → EachOnce f n → (first se
     → (some-left some-below : Bool) → Tells some-left (SomeBefore f across second first) → Tells some-below (SomeBefore f upward second first)
     → verdictOf some-left some-below Right Above ≡ standing f first second
 standing-behind f n once first second fits before some-left some-below l b =
+    let back = fits-exchanged first second fits in
     exchanged-verdict some-left some-below
     ∙ says→standing f first second (fits .filled) _ (says-exchanged f second first (back .apart) (verdictOf some-left some-below Left Below)
     (says-ahead f n once second first back before some-left some-below l b))
-  where
-    back : Fits n second first
-    back = record {
-      inside = λ z. fits .inside (⊎-swap z);
-      filled = λ z. fits .filled (⊎-swap z);
-      apart = λ z. fits .apart (common-exchanged second first z);
-    }

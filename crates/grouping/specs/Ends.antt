@@ -1,9 +1,9 @@
--- What the functions find of two groups: the extremes of their positions, that nothing of them is refused, and which relations occur.
+-- What the functions find of two groups: the extremes of their positions, and which relations occur.
 use mathlib.Core.Bool.{Bool, true, false}
 use mathlib.Core.List.{List}
 use Prim.Native.Nat.{ℕ, _≤_}
 use Rattle.drawing.specs.declared.Side.{Side}
-use Rattle.groups.specs.Group.{Member, EachIn, Outside, SomeEmpty, Common}
+use Rattle.groups.specs.Group.{Member, EachIn}
 use Rattle.groups.specs.declared.GroupsAnswer.{GroupsAnswer}
 use Rattle.groups.specs.declared.GroupsAnswer.the-variants.{Related, Mixed}
 
@@ -18,12 +18,6 @@ pub record FirstIn (group : List ℕ) (first : ℕ) : Type 0 where
   pub from : 1 ≤ first
   pub has : first ≤ 256 → Member group first
   pub none-before : EachIn group (λ k. first ≤ k)
-
--- nothing is refused of two groups of a plan of n rooms
-pub record Fits (n : ℕ) (first second : List ℕ) : Type 0 where
-  pub inside : ¬ Outside n first second
-  pub filled : ¬ SomeEmpty first second
-  pub apart : ¬ Common first second
 
 -- what is answered where the two relations of a group that comes before another one are left and below
 abbrev pub verdictOf : (some-left some-below : Bool) (left below : Side) → GroupsAnswer

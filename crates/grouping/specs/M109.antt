@@ -58,7 +58,7 @@ module _ (bytes first second : List ℕ) (i j : ℕ) (one : Only first i) (other
   says (asked.same all o e) =
       common all (λ z. o (outside-back z)) filled (i, one .from, omega (arith, one .to), (one .has, subst (Member second) (sym e) (other .has)))
   says (asked.related {relation} {touch} all o differ s d t) =
-      related record { readable = all; inside = λ z. o (outside-back z); filled = filled; apart = apart differ }
+      related record { readable = all; fits = record { inside = λ z. o (outside-back z); filled = filled; apart = apart differ } }
       (λ k a b m h c e l. (λ u. sideOf (labelAt (labelsOf bytes)) (one .only k a b m u) (other .only h c e l u)) ∙ sym s)
 
   -- so it is for every record, and whatever is refused

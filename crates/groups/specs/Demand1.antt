@@ -10,7 +10,7 @@ use Rattle.record.specs.Checked.{Readable, Refuses, checked-has, refused-checke
 use Rattle.record.specs.declared.Refusal.{Refusal}
 use Rattle.record.specs.declared.Refusal.the-variants.{PositionOutside, EmptyGroup, SamePosition}
 use Rattle.drawing.specs.declared.Side.{Side}
-use Rattle.groups.specs.Group.{Outside, dec-outside, SomeEmpty, dec-some-empty, Common, dec-common}
+use Rattle.groups.specs.Group.{Outside, dec-outside, SomeEmpty, dec-some-empty, Common, dec-common, Fits}
 use Rattle.groups.specs.Standing.{AllStand}
 use Rattle.groups.specs.Answer.{standing, groupsAnswer}
 use Rattle.groups.specs.StandingFacts.{Says, standing-says, says→standing}
@@ -20,9 +20,7 @@ use Rattle.groups.specs.declared.GroupsAnswer.the-variants.{Related, Mix
 -- nothing of the record and of the groups is refused
 pub record Asked (bytes first second : List ℕ) : Type 0 where
   pub readable : Readable bytes
-  pub inside : ¬ Outside (kindOf bytes) first second
-  pub filled : ¬ SomeEmpty first second
-  pub apart : ¬ Common first second
+  pub fits : Fits (kindOf bytes) first second
 
 pub data GroupsSays (bytes first second : List ℕ) : GroupsAnswer → Type 0 where
   refused-record : {refusal : Refusal} → Refuses bytes refusal → GroupsSays bytes first second (Refused refusal)
@@ -56,15 +54,15 @@ module _ (bytes first second : List ℕ) where
       go (no o) (yes e) c all = empty all o e
       go (no o) (no e) (yes c) all = common all o e c
       go (no o) (no e) (no c) all =
-          says (record { readable = all; inside = o; filled = e; apart = c }) answer (standing-says (labelAt (labelsOf bytes)) first second)
+          says (record { readable = all; fits = record { inside = o; filled = e; apart = c } }) answer (standing-says (labelAt (labelsOf bytes)) first second)
 
   -- where nothing is refused, it is the answer that says what holds
   pub asked-answer : Asked bytes first second → (x : GroupsAnswer) → Says (labelAt (labelsOf bytes)) first second x
       → x ≡ groupsAnswer bytes first second
   asked-answer asked x h =
-      says→standing (labelAt (labelsOf bytes)) first second (asked .filled) x h
-      ∙ sym (if-neg (dec-outside (kindOf bytes) first second) (asked .inside) _ _ ∙ if-neg (dec-some-empty first second) (asked .filled) _ _
-      ∙ if-neg (dec-common first second) (asked .apart) _ _)
+      says→standing (labelAt (labelsOf bytes)) first second (asked .fits .filled) x h
+      ∙ sym (if-neg (dec-outside (kindOf bytes) first second) (asked .fits .inside) _ _ ∙ if-neg (dec-some-empty first second) (asked .fits .filled) _ _
+      ∙ if-neg (dec-common first second) (asked .fits .apart) _ _)
       ∙ readable-checked Refused bytes _ (asked .readable)
 
   -- and an answer with its cause is the answer

@@ -1,5 +1,5 @@
--- The law by which the code looks along each group once: a comparison holds between all rooms of two groups exactly if it holds between the
--- last of the one and the first of the other. So "every room of the first is left of every room of the second" is said of four extremes.
+-- The extremes of a number that each room of a group has, as its position or its label: all those of one group are below all those of
+-- another one exactly if the greatest is below the least. So one look along each group is enough.
 use mathlib.Core.List.{List}
 use mathlib.Core.Logic.{_↔_}
 use mathlib.Core.Path.{_≡_}

@@ -57,3 +57,9 @@ Common first second = SomeIn first (Member second)
 unfoldable pub dec-common : (first second : List ℕ) → Dec (Common first second)
 unfolding dec-some-in dec-member
 dec-common first second = dec-some-in first (dec-member second)
+
+-- nothing of this is the case, for a plan of n rooms
+pub record Fits (n : ℕ) (first second : List ℕ) : Type 0 where
+  pub inside : ¬ Outside n first second
+  pub filled : ¬ SomeEmpty first second
+  pub apart : ¬ Common first second

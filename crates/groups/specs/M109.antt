@@ -13,12 +13,12 @@ use Rattle.drawing.specs.declared.Side.{Side}
 use Rattle.rooms.specs.Causes.{AcceptedRooms}
 use Rattle.rooms.specs.LabelList.{recordOfRooms}
 use Rattle.rooms.specs.Demand3.{record-of-rooms-readable, label-list-back, kind-of-rooms}
-use Rattle.groups.specs.Group.{Outside, SomeEmpty, Common}
+use Rattle.groups.specs.Group.{SomeEmpty, Common, Fits}
 use Rattle.groups.specs.Standing.{AllStand}
 use Rattle.groups.specs.Answer.{standing, groupsAnswer}
-use Rattle.groups.specs.StandingFacts.{Says, standing-says, at-most-one-side, common-exchanged, exchanged, says-exchanged}
+use Rattle.groups.specs.StandingFacts.{Says, standing-says, at-most-one-side, common-exchanged, fits-exchanged, exchanged, says-exchanged}
 use Rattle.groups.specs.Demand1.{Asked, GroupsSays, refused-record, outside, empty, common, related, mixed, asked-answer, demand1-groups-cause, demand1-groups-answer}
-use Rattle.groups.specs.ByExtremes.{Spans, Between, stand-iff-between}
+use Rattle.groups.specs.ByExtremes.{Span, Spans, Between, stand-iff-between}
 use Rattle.groups.specs.OfRooms.{RoomsStand, stand-iff-rooms-stand}
 use Rattle.groups.specs.declared.GroupsAnswer.{GroupsAnswer}
 use Rattle.groups.specs.declared.GroupsAnswer.the-variants.{Related, Mixed, Refused}
@@ -38,26 +38,20 @@ pub m109-exchanged : (bytes first second : List ℕ) → groupsAnswer bytes seco
 m109-exchanged bytes first second = sym (demand1-groups-answer bytes second first (turned (demand1-groups-cause bytes first second)))
   where
     back : Asked bytes first second → Asked bytes second first
-    back asked = record {
-      readable = asked .readable;
-      inside = λ z. asked .inside (⊎-swap z);
-      filled = λ z. asked .filled (⊎-swap z);
-      apart = λ z. asked .apart (common-exchanged second first z);
-    }
+    back asked = record { readable = asked .readable; fits = fits-exchanged first second (asked .fits) }
 
     turned : {answer : GroupsAnswer} → GroupsSays bytes first second answer → GroupsSays bytes second first (exchanged answer)
     turned (refused-record cause) = refused-record cause
     turned (outside all o) = outside all (⊎-swap o)
     turned (empty all o e) = empty all (λ z. o (⊎-swap z)) (⊎-swap e)
     turned (common all o e c) = common all (λ z. o (⊎-swap z)) (λ z. e (⊎-swap z)) (common-exchanged first second c)
-    turned (related {side} asked h) = related (back asked) (says-exchanged _ first second (asked .apart) (Related side) h)
-    turned (mixed asked h) = mixed (back asked) (says-exchanged _ first second (asked .apart) Mixed h)
+    turned (related {side} asked h) = related (back asked) (says-exchanged _ first second (asked .fits .apart) (Related side) h)
+    turned (mixed asked h) = mixed (back asked) (says-exchanged _ first second (asked .fits .apart) Mixed h)
 
 -- every room of the first is left of every room of the second exactly if the first's last position is before the second's first and its
 -- greatest label below the second's least; and likewise for the other sides (`Between`)
-pub m109-all-iff-extremes : (f : ℕ → ℕ) (n : ℕ) → EachOnce f n → (side : Side) (first second : List ℕ) → ¬ Outside n first second
-    → ¬ Common first second → {a b p q c d r s : ℕ} → Spans f first a b p q → Spans f second c d r s
-    → AllStand f first second side ↔ Between side a b p q c d r s
+pub m109-all-iff-extremes : (f : ℕ → ℕ) (n : ℕ) → EachOnce f n → (side : Side) (first second : List ℕ) → Fits n first second
+    → {one other : Span} → Spans f first one → Spans f second other → AllStand f first second side ↔ Between side one other
 m109-all-iff-extremes = stand-iff-between
 
 -- ---- in every accepted room list
@@ -68,9 +62,9 @@ SaysOfRooms rooms first second Mixed = (side : Side) → ¬ RoomsStand rooms fir
 SaysOfRooms rooms first second (Refused refusal) = ⊥
 
 -- groups of which nothing is refused: what is answered for the record of an accepted room list holds of its rooms
-pub m109-holds-in-every-room-list : (rooms : List Room) → AcceptedRooms rooms → (first second : List ℕ) → ¬ Outside (length rooms) first second
-    → ¬ SomeEmpty first second → ¬ Common first second → SaysOfRooms rooms first second (groupsAnswer (recordOfRooms rooms) first second)
-m109-holds-in-every-room-list rooms accepted first second inside filled none =
+pub m109-holds-in-every-room-list : (rooms : List Room) → AcceptedRooms rooms → (first second : List ℕ) → Fits (length rooms) first second
+    → SaysOfRooms rooms first second (groupsAnswer (recordOfRooms rooms) first second)
+m109-holds-in-every-room-list rooms accepted first second fits =
     subst (SaysOfRooms rooms first second) (asked-answer bytes first second asked (standing f first second) (standing-says f first second))
     (go (standing f first second) (standing-says f first second))
   where
@@ -83,14 +77,12 @@ m109-holds-in-every-room-list rooms accepted first second inside filled none =
     asked : Asked bytes first second
     asked = record {
       readable = record-of-rooms-readable rooms accepted;
-      inside = subst (λ (n : ℕ). ¬ Outside n first second) (sym (kind-of-rooms rooms accepted)) inside;
-      filled = filled;
-      apart = none;
+      fits = subst (λ (n : ℕ). Fits n first second) (sym (kind-of-rooms rooms accepted)) fits;
     }
 
     iff : (side : Side) → AllStand f first second side ↔ RoomsStand rooms first second side
     iff side = subst (λ (labels : List ℕ). AllStand (labelAt labels) first second side ↔ RoomsStand rooms first second side)
-        (label-list-back rooms accepted) (stand-iff-rooms-stand rooms accepted first second inside none side)
+        (label-list-back rooms accepted) (stand-iff-rooms-stand rooms accepted first second fits side)
 
     go : (answer : GroupsAnswer) → Says f first second answer → SaysOfRooms rooms first second answer
     go (Related side) h = iff side .0 h

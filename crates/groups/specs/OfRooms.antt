@@ -17,7 +17,7 @@ use Rattle.rooms.specs.Direct.{Stands}
 use Rattle.rooms.specs.Stands.{rooms-stand}
 use Rattle.rooms.specs.Demand3.{rooms-give-baxter}
 use Rattle.rooms.specs.RelationFacts.{exactly-one-relation}
-use Rattle.groups.specs.Group.{Member, Outside, Common}
+use Rattle.groups.specs.Group.{Member, Fits}
 use Rattle.groups.specs.Standing.{AllStand}
 use Rattle.groups.specs.StandingFacts.{member-inside}
 
@@ -26,8 +26,8 @@ abbrev pub RoomsStand : (rooms : List Room) (first second : List ℕ) → Side �
 RoomsStand rooms first second side = (a b : ℕ) → a < length rooms → b < length rooms
     → Member first (positionOf rooms a) → Member second (positionOf rooms b) → Stands rooms side a b
 
-module _ (rooms : List Room) (accepted : AcceptedRooms rooms) (first second : List ℕ) (inside : ¬ Outside (length rooms) first second)
-    (none : ¬ Common first second) where
+module _ (rooms : List Room) (accepted : AcceptedRooms rooms) (first second : List ℕ)
+    (fits : Fits (length rooms) first second) where
   abbrev f : ℕ → ℕ
   f = labelAt (labelList rooms)
 
@@ -43,12 +43,12 @@ module _ (rooms : List Room) (accepted : AcceptedRooms rooms) (first second : Li
   -- a pair of rooms
   module _ {a b : ℕ} (ha : a < length rooms) (hb : b < length rooms) (m : Member first (position a)) (l : Member second (position b)) where
     differ : a ≢ b
-    differ e = none (position a, at .range a ha .0, omega (arith, few, at .range a ha), (m, subst (λ (z : ℕ). Member second (position z)) (sym e) l))
+    differ e = fits .apart (position a, at .range a ha .0, omega (arith, few, at .range a ha), (m, subst (λ (z : ℕ). Member second (position z)) (sym e) l))
 
     stands : Stands rooms (sideOf f (position a) (position b)) a b
     stands = rooms-stand rooms accepted a b ha hb differ
 
-    pub side-only : (side : Side) → Stands rooms side a b → sideOf f (position a) (position b) ≡ side
+    side-only : (side : Side) → Stands rooms side a b → sideOf f (position a) (position b) ≡ side
     side-only side s =
         let only = exactly-one-relation rooms accepted a b ha hb differ .only in
         only (sideOf f (position a) (position b)) stands ∙ sym (only side s)
@@ -65,8 +65,8 @@ module _ (rooms : List Room) (accepted : AcceptedRooms rooms) (first second : Li
 
       from : RoomsStand rooms first second side → AllStand f first second side
       from h i u v m j x y l =
-          let (a, _, ha, ea) = at .each i u (member-inside first (λ z. inside (inl z)) i u v m) in
-          let (b, _, hb, eb) = at .each j x (member-inside second (λ z. inside (inr z)) j x y l) in
-          let m′ = subst (Member first) (sym ea) m in
-          let l′ = subst (Member second) (sym eb) l in
-          subst₂ (λ (i j : ℕ). sideOf f i j ≡ side) ea eb (side-only ha hb m′ l′ side (h a b ha hb m′ l′))
+          let (a, _, ha, ea) = at .each i u (member-inside first (λ z. fits .inside (inl z)) i u v m) in
+          let (b, _, hb, eb) = at .each j x (member-inside second (λ z. fits .inside (inr z)) j x y l) in
+          let of-first = subst (Member first) (sym ea) m in
+          let of-second = subst (Member second) (sym eb) l in
+          subst₂ (λ (i j : ℕ). sideOf f i j ≡ side) ea eb (side-only ha hb of-first of-second side (h a b ha hb of-first of-second))

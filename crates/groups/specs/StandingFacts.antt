@@ -1,7 +1,7 @@
 -- Of two groups that are not empty, at most one side is that on which all rooms of the first stand of all rooms of the second; so an answer
 -- that says what holds is the answer. With the groups exchanged it is the opposite side.
 use mathlib.Core.List.{List}
-use mathlib.Core.Logic.{_≢_, inl, inr, ite}
+use mathlib.Core.Logic.{_≢_, inl, inr, ⊎-swap, ite}
 use mathlib.Core.Path.{_≡_, refl, sym, ap, subst, _∙_}
 use Prim.Native.Nat.{ℕ, _≤_, _<_}
 use Rattle.finite.specs.Decide.{le-or-lt, stable}
@@ -10,7 +10,7 @@ use Rattle.drawing.specs.Side.{converse}
 use Rattle.drawing.specs.SideFacts.{exchange-side}
 use Rattle.drawing.specs.declared.Side.{Side}
 use Rattle.drawing.specs.declared.Side.the-variants.{Left, Right, Above, Below}
-use Rattle.groups.specs.Group.{Member, dec-member, SomeIn, Empty, SomeEmpty, Common}
+use Rattle.groups.specs.Group.{Member, dec-member, SomeIn, Empty, SomeEmpty, Common, Fits}
 use Rattle.groups.specs.Standing.{AllStand, dec-all-stand}
 use Rattle.groups.specs.Answer.{standing}
 use Rattle.groups.specs.declared.GroupsAnswer.{GroupsAnswer}
@@ -78,6 +78,13 @@ module _ (f : ℕ → ℕ) (first second : List ℕ) where
 -- ---- the groups exchanged
 pub common-exchanged : (first second : List ℕ) → Common first second → Common second first
 common-exchanged first second (k, a, b, (m, l)) = (k, a, b, (l, m))
+
+pub fits-exchanged : {n : ℕ} (first second : List ℕ) → Fits n first second → Fits n second first
+fits-exchanged first second fits = record {
+  inside = λ z. fits .inside (⊎-swap z);
+  filled = λ z. fits .filled (⊎-swap z);
+  apart = λ z. fits .apart (common-exchanged second first z);
+}
 
 pub stand-exchanged : (f : ℕ → ℕ) (first second : List ℕ) → ¬ Common first second → {side : Side}
     → AllStand f first second side → AllStand f second first (converse side)

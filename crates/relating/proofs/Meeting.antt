@@ -12,7 +12,7 @@ use lib.ListN.{length, getD, set, replicate, length-set}
 use lib.Seq.{getD-set-same, getD-set-other}
 use Rattle.finite.specs.Decide.{Tells, tells-iff, eq-or-ne}
 use Rattle.finite.specs.Search.{Some}
-use Rattle.finite.specs.Marks.{Marks, marks-le, marks-and, marks-same, marks-more, marks-tell}
+use Rattle.finite.specs.Marks.{Marks, marks-le, or-is-max, marks-and, marks-same, marks-more, marks-tell}
 use Rattle.bits.specs.Pack.{zeros-at}
 use Rattle.record.specs.Labels.{labelAt}
 use Rattle.record.specs.Record.{tripleIn}
@@ -27,16 +27,6 @@ use Rattle.sizes.specs.Turned.{TurnFits, Turned, turned-first, turn-fits, turne
 use Rattle.groups.specs.Group.{Member, EachIn}
 use Rattle.groups.specs.Pairs.{SomeBefore}
 use Rattle.relating.proofs.Reached.{Reached, startOf, start-marks, sizeOf, end-is, first-start, furthest-is-start}
-
--- of two bits the larger one
-or-is-max : (a b : ℕ) → a ≤ 1 → b ≤ 1 → bitOr a b ≡ max a b
-or-is-max zero zero h k = refl
-or-is-max zero (suc zero) h k = refl
-or-is-max (suc zero) zero h k = refl
-or-is-max (suc zero) (suc zero) h k = refl
-or-is-max zero (suc (suc b)) h k = absurd (omega arith)
-or-is-max (suc zero) (suc (suc b)) h k = absurd (omega arith)
-or-is-max (suc (suc a)) b h k = absurd (omega arith)
 
 -- every number of a stack is a bit
 abbrev pub Bits : List ℕ → Type 0
@@ -186,12 +176,12 @@ abbrev pub Ends : (last end left below : ℕ) → Type 0
 Ends last end left below = (end ≡ last) ⊎ ((end ≡ 0) × (left ≡ 1) × (below ≡ 1))
 
 pub both-bit : {left below : ℕ} → left ≤ 1 → below ≤ 1 → bitAnd left below ≤ 1
-both-bit {left} {below} small small′ = omega (arith, and-le-l left below)
+both-bit {left} {below} small also = omega (arith, and-le-l left below)
 
 pub ends-next : (last end left below : ℕ) {at : ℕ} → end ≡ last → left ≤ 1 → below ≤ 1 → at ≡ either (bitAnd left below) 0 end
     → Ends last at left below
-ends-next last end zero below is small small′ e = inl (omega arith)
-ends-next last end (suc zero) zero is small small′ e = inl (omega arith)
-ends-next last end (suc zero) (suc zero) is small small′ e = inr (omega arith, refl, refl)
-ends-next last end (suc zero) (suc (suc below)) is small small′ e = absurd (omega arith)
-ends-next last end (suc (suc left)) below is small small′ e = absurd (omega arith)
+ends-next last end zero below is small also e = inl (omega arith)
+ends-next last end (suc zero) zero is small also e = inl (omega arith)
+ends-next last end (suc zero) (suc zero) is small also e = inr (omega arith, refl, refl)
+ends-next last end (suc zero) (suc (suc below)) is small also e = absurd (omega arith)
+ends-next last end (suc (suc left)) below is small also e = absurd (omega arith)

@@ -2,26 +2,17 @@
 -- group ends at 1. Then the furthest room before each room ends where it starts.
 use mathlib.Core.List.{List}
 use mathlib.Core.Logic.{inl, inr}
-use mathlib.Core.Path.{_≡_, refl}
+use mathlib.Core.Path.{_≡_}
 use Prim.Native.Nat.{ℕ, suc, _+_, _-_, _≤_, max}
 use native.Mathlib.Omega.{arith}
 use Rattle.finite.specs.Decide.{dec-×}
 use Rattle.finite.specs.Search.{Some, dec-some}
 use Rattle.finite.specs.Count.{indicator}
-use Rattle.finite.specs.Marks.{Marks, marks-le, marks-yes, marks-no, marks-once}
-use Rattle.sizes.specs.Direction.{Direction, across, upward, Before, dec-before}
+use Rattle.finite.specs.Marks.{Marks, marks-le, marks-indicator, marks-yes, marks-no, marks-once}
+use Rattle.sizes.specs.Direction.{Direction, Before, dec-before}
 use Rattle.sizes.specs.Lowest.{furthestBefore}
-use Rattle.sizes.specs.LowestLaws.{before→earlier, furthest-ge, furthest-smallest}
+use Rattle.sizes.specs.LowestLaws.{before→earlier, before-trans, furthest-ge, furthest-smallest}
 use Rattle.groups.specs.Group.{Member, dec-member}
-
-marks-indicator : {A : Type 0} (d : Dec A) → Marks (indicator d) A
-unfolding indicator
-marks-indicator (yes a) = inl (refl, a)
-marks-indicator (no h) = inr (refl, h)
-
-before-trans : (f : ℕ → ℕ) (way : Direction) (i j k : ℕ) → Before f way i j → Before f way j k → Before f way i k
-before-trans f across i j k (a, b) (c, d) = (omega arith, omega arith)
-before-trans f upward i j k (a, b) (c, d) = (omega arith, omega arith)
 
 module _ (f : ℕ → ℕ) (n : ℕ) (first : List ℕ) where
   -- a room of the first group stands before room j

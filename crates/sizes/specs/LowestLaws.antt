@@ -13,6 +13,10 @@ pub before→earlier : (f : ℕ → ℕ) (way : Direction) {i j : ℕ} → Befor
 before→earlier f across p = p .0
 before→earlier f upward p = p .0
 
+pub before-trans : (f : ℕ → ℕ) (way : Direction) (i j k : ℕ) → Before f way i j → Before f way j k → Before f way i k
+before-trans f across i j k (a, b) (c, d) = (omega arith, omega arith)
+before-trans f upward i j k (a, b) (c, d) = (omega arith, omega arith)
+
 module _ (f : ℕ → ℕ) (way : Direction) (size : ℕ → ℕ) (n : ℕ) where
   -- the furthest room before j ends no earlier than any of them, and no later than a bound of all
   module _ (start : ℕ → ℕ) (j : ℕ) where
