@@ -12,6 +12,7 @@ use lib.Dec.{eqb, eqb→eq}
 use lib.ListN.{length, getD, take, drop, replicate, List·getD-eq-default}
 use lib.Pow.{shr-shr}
 use lib.Seq.{ext-getD}
+use Rattle.finite.specs.BitTable.{zeros-at}
 use Rattle.finite.specs.Decide.{le-or-lt}
 use Rattle.finite.specs.Every.{every-at}
 use Rattle.finite.specs.Table.{length-table, getD-table, take-table}
@@ -145,13 +146,7 @@ bitAt-past bytes i h =
     let none : getD bytes (i / 8) 0 ≡ 0 = List·getD-eq-default bytes 0 (omega arith) in
     rw (none, zero-div (2 ^ (7 - i % 8)))
 
--- bytes that are 0
-pub zeros-at : (n i : ℕ) → getD {A = ℕ} (replicate n 0) i 0 ≡ 0
-zeros-at zero i = refl
-zeros-at (suc n) zero = refl
-zeros-at (suc n) (suc i) = zeros-at n i
-
--- have no bit set
+-- bytes that are 0 have no bit set
 pub bitAt-zeros : (n i : ℕ) → bitAt (replicate n 0) i ≡ false
 unfolding bitAt bitIn
 bitAt-zeros n i = rw (zeros-at n (i / 8), zero-div (2 ^ (7 - i % 8)))

@@ -7,9 +7,10 @@ use Prim.Native.Nat.{ℕ, zero, suc, _-_, _*_, _≤_}
 use native.Mathlib.Omega.{arith}
 use native.Mathlib.Numerals.{one-add}
 use lib.ListN.{length, take, replicate, length-replicate}
+use Rattle.finite.specs.BitTable.{zeros-at}
 use Rattle.finite.specs.Decide.{eq-or-ne}
 use Rattle.bits.specs.Bit.{bitAt, Bytes, pack}
-use Rattle.bits.specs.Pack.{take-pack, zeros-at, bitAt-zeros}
+use Rattle.bits.specs.Pack.{take-pack, bitAt-zeros}
 use Rattle.record.specs.Labels.{labelAt}
 use Rattle.record.specs.Triple.{Triple, tripleAt}
 use Rattle.record.specs.Record.{bodyLength, bodyBit, tripleIn, recordOf}

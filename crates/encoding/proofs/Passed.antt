@@ -12,6 +12,7 @@ use lib.Dec.{ltb}
 use lib.ListN.{length, getD, set, take as takeFirst, length-set, replicate, length-replicate}
 use Rattle.bits.specs.Bit.{bit}
 use Rattle.finite.specs.Decide.{le-or-lt, Tells, holds-tells}
+use Rattle.finite.specs.Marks.{Marks, marks-holds, marks-fails}
 use Rattle.record.specs.declared.Label.{Label}
 use Rattle.record.specs.Labels.{labelAt, LabelOutside, LabelTwice, EachOnce}
 use Rattle.record.specs.Barred.{Baxter}
@@ -25,9 +26,11 @@ use Rattle.record.specs.Decode.{bitsOf, turnOf}
 use Rattle.record.specs.NextTo.{Seen, NextTo, not-barred-next, next-not-barred}
 use Rattle.record.specs.Forward.{Takes, leave, take, joined-takes, triple-turn, runsOf, Stage, stage-first, step-stage, free-step}
 use Rattle.record.specs.Demand2.{each-once}
-use Rattle.encoding.specs.Encoded.{Encoded, pastRuns}
+use Rattle.encoding.specs.Encoded.{Encoded, PastRuns}
 use Rattle.encoding.specs.Picks.{Picks, none, Nearest, inside-within, not-past-current-before, not-past-before, past-not-before}
-use Rattle.encoding.specs.Marks.{Marks, marks-none, marks-more, mark-tells}
+use Rattle.encoding.specs.Marked.{seenOf, marked-earlier, mark-bit}
+use Rattle.marks.specs.Seen.{markOf, withLabel, seenAfter}
+use Rattle.marks.specs.M110.{seen-long as long-after, m110-others-stay}
 use Rattle.encoding.proofs.Stack.{labelIn, stackOf, nearest-of, label-kept, picks-ahead, picks-take}
 use Rattle.encoding.proofs.Partly.{Partly, partly-none, partly-more, partly-all}
 
@@ -47,8 +50,7 @@ pub record Passed (labels : List ℕ) (k : ℕ) (seen : List ℕ) (below above :
   pub ceiling : labelIn above 0 ≡ 255
   pub below-long : length below ≡ 255
   pub above-long : length above ≡ 255
-  pub seen-long : length seen ≡ 257
-  pub marks : Marks seen (labelAt labels) (suc (suc k))
+  pub seen-is : seen ≡ seenOf labels (suc k)
   pub partly : Partly (tripleAt (labelAt labels)) (length labels) k written
 
 -- ---- a step's counts
@@ -96,12 +98,6 @@ abbrev nearest : (lo hi : ℕ) → Way → ℕ
 nearest lo hi up = hi
 nearest lo hi down = lo
 
-bit-of-not-less : (x y : ℕ) → ¬ (x < y) → bit (ltb x y) ≡ 0
-bit-of-not-less x y n = let l : y ≤ x = omega arith in ap bit (le-ltb x y l)
-
-no-bit→not-less : (x y : ℕ) → bit (ltb x y) ≡ 0 → ¬ (x < y)
-no-bit→not-less x y e h = omega (arith, ap bit (lt-ltb x y h))
-
 -- ---- one turn
 module _ {labels : List ℕ} {k : ℕ} {seen : List ℕ} {below above : List Label} {p q last : ℕ} {written : List ℕ}
     (s : Passed labels k seen below above p q last written) (more : k + 1 < length labels) (few : length labels ≤ 255) (inside : ¬ LabelOutside labels) where
@@ -123,14 +119,24 @@ module _ {labels : List ℕ} {k : ℕ} {seen : List ℕ} {below above : List Lab
       let hi : ¬ (length labels < v) = λ h. inside (suc (suc k), omega arith, omega arith, inr h) in
       omega arith
 
-  -- the bits of the triple, as marks
-  pub first-bit : getD seen (v + 1) 0 ≡ bit (bitsOf t up)
-  unfolding tripleAt
-  first-bit = s .marks (v + 1) (omega (arith, label))
+  -- what the marks say
+  pub seen-long : length seen ≡ 32
+  seen-long = ap length (s .seen-is) ∙ long-after (λ i. getD labels i 0) (suc k)
 
-  pub second-bit : getD seen (v - 1) 0 ≡ bit (bitsOf t down)
+  marked : (x : ℕ) → Marks (markOf seen x) (Seen f (suc k) x)
+  marked x = subst (λ (seen : List ℕ). Marks (markOf seen x) (Seen f (suc k) x)) (sym (s .seen-is)) (marked-earlier labels (suc k) x)
+
+  -- the bits of the triple, as marks, when the label is marked too
+  pub first-bit : markOf (withLabel seen v) (v + 1) ≡ bit (bitsOf t up)
   unfolding tripleAt
-  second-bit = s .marks (v - 1) (omega (arith, label))
+  first-bit =
+      m110-others-stay seen seen-long v (v + 1) (λ e. omega arith) ∙ mark-bit (marked (v + 1)) (dec-earlier f (v + 1) (suc (suc k)))
+
+  pub second-bit : markOf (withLabel seen v) (v - 1) ≡ bit (bitsOf t down)
+  unfolding tripleAt
+  second-bit =
+      m110-others-stay seen seen-long v (v - 1) (λ e. omega (arith, label))
+      ∙ mark-bit (marked (v - 1)) (dec-earlier f (v - 1) (suc (suc k)))
 
   falls-tells : Tells (falls t) (v < last)
   unfolding tripleAt
@@ -163,36 +169,33 @@ module _ {labels : List ℕ} {k : ℕ} {seen : List ℕ} {below above : List Lab
       go (triple a b false) h free down = behind down (λ p. omega arith)
 
   -- a label that is turned away: seen before, or past the nearest run
-  pub turned-away : (r : ℕ) → r ≡ pastRuns v (labelIn below p) (labelIn above q) → r + getD seen v 0 ≢ 0 → ¬ Baxter labels
-  turned-away r e away b =
-      let under = bit-of-not-less v (labelIn below p) (λ l. not-past down (record { less = l })) in
-      let over = bit-of-not-less (labelIn above q) v (λ l. not-past up (record { less = l })) in
-      away (omega (arith, unseen, under, over))
-    where
-      fresh : ¬ Seen f (suc k) v
-      fresh (i, c, d, h) = omega (arith, b .each-once .once i (suc (suc k)) c (omega arith) (omega arith) (omega arith) h)
+  module _ (b : Baxter labels) where
+    once : ¬ Seen f (suc k) v
+    once (i, c, d, h) = omega (arith, b .each-once .once i (suc (suc k)) c (omega arith) (omega arith) (omega arith) h)
 
-      unseen : getD seen v 0 ≡ 0
-      unseen = let m = mark-tells (dec-earlier f v (suc (suc k))) (getD seen v 0) (s .marks v (omega (arith, label))) in
-          let n : getD seen v 0 ≢ 1 = λ h. fresh (m .0 h) in
-          omega (arith, m .2)
+    fits : Before (turnOf t) v (z .stack (turnOf t))
+    fits =
+        chained-free (s .stage .faithful) (s .stage .inside) once
+        (not-barred-next f (length labels) (b .each-once) (b .not-barred) (suc k) (omega arith) (omega arith) (turnOf t))
 
-      free : Before (turnOf t) v (z .stack (turnOf t))
-      free =
-          chained-free (s .stage .faithful) (s .stage .inside) fresh
-          (not-barred-next f (length labels) (b .each-once) (b .not-barred) (suc k) (omega arith) (omega arith) (turnOf t))
+    passes-none : (way : Way) → ¬ Past way (nearest (labelIn below p) (labelIn above q) way) v
+    passes-none way past = past-not-before (near way) past (before-each fits way)
 
-      not-past : (way : Way) → ¬ Past way (nearest (labelIn below p) (labelIn above q) way) v
-      not-past way past = past-not-before (near way) past (before-each free way)
+  pub away-seen : markOf seen v ≡ 1 → ¬ Baxter labels
+  away-seen e b = once b (marks-holds (marked v) e)
+
+  pub away-past : PastRuns v (labelIn below p) (labelIn above q) → ¬ Baxter labels
+  away-past (inl l) b = passes-none b down (record { less = l })
+  away-past (inr l) b = passes-none b up (record { less = l })
 
   -- ---- a label that is taken
-  module _ (r : ℕ) (r-is : r ≡ pastRuns v (labelIn below p) (labelIn above q)) (stays : r + getD seen v 0 ≡ 0) where
+  module _ (clear : ¬ PastRuns v (labelIn below p) (labelIn above q)) (new : markOf seen v ≢ 1) where
     taken-fresh : ¬ Seen f (suc k) v
-    taken-fresh = mark-tells (dec-earlier f v (suc (suc k))) (getD seen v 0) (s .marks v (omega (arith, label))) .1 (omega arith)
+    taken-fresh = marks-fails (marked v) new
 
     not-past : (way : Way) → ¬ Past way (nearest (labelIn below p) (labelIn above q) way) v
-    not-past up past = no-bit→not-less (labelIn above q) v (omega arith) (past .less)
-    not-past down past = no-bit→not-less v (labelIn below p) (omega arith) (past .less)
+    not-past up past = clear (inr (past .less))
+    not-past down past = clear (inl (past .less))
 
     free : Before (turnOf t) v (z .stack (turnOf t))
     free = not-past-before (s .stage .faithful) taken-fresh (near (turnOf t)) (not-past (turnOf t))
@@ -228,8 +231,9 @@ module _ {labels : List ℕ} {k : ℕ} {seen : List ℕ} {below above : List Lab
     pub taken-passed : (p-after q-after : ℕ) (after : List ℕ)
         → p-after + (bit (falls t) + bit (bitsOf t down)) ≡ p + 1 → q-after + (1 - bit (falls t) + bit (bitsOf t up)) ≡ q + 1
         → TripleSet written after (k + 2) (tripleOf (4 * bit (bitsOf t up) + 2 * bit (bitsOf t down) + bit (falls t)))
-        → Passed labels (suc k) (set seen v 1) (set below (p + 1) (record { 0 = last })) (set above (q + 1) (record { 0 = last }))
+        → Passed labels (suc k) (withLabel seen v) (set below (p + 1) (record { 0 = last })) (set above (q + 1) (record { 0 = last }))
         p-after q-after v after
+    unfolding seenAfter
     taken-passed p-after q-after after pe qe is-set = record {
       within = omega arith;
       last-is = refl;
@@ -245,8 +249,7 @@ module _ {labels : List ℕ} {k : ℕ} {seen : List ℕ} {below above : List Lab
       ceiling = label-kept above (q + 1) 0 (record { 0 = last }) (omega arith) ∙ s .ceiling;
       below-long = length-set below (p + 1) (record { 0 = last }) ∙ s .below-long;
       above-long = length-set above (q + 1) (record { 0 = last }) ∙ s .above-long;
-      seen-long = length-set seen v 1 ∙ s .seen-long;
-      marks = marks-more seen f (suc (suc k)) (s .seen-long) (omega arith) (omega (arith, label)) (s .marks);
+      seen-is = ap (λ (seen : List ℕ). withLabel seen v) (s .seen-is);
       partly = partly-more (tripleAt f) (length labels) k written after (s .partly)
           (subst₂ (TripleSet written after) position (numbered t) is-set);
     }
@@ -262,9 +265,9 @@ module _ {labels : List ℕ} {k : ℕ} {seen : List ℕ} {below above : List Lab
 
 -- ---- the start and the end
 pub passed-first : (labels before : List ℕ) → 1 ≤ length labels → length labels ≤ 255 → ¬ LabelOutside labels → before ≡ replicate 97 0
-    → Passed labels 0 (set (replicate 257 0) (labelAt labels 1) 1) (replicate 255 (record { 0 = 0 })) (replicate 255 (record { 0 = 255 }))
+    → Passed labels 0 (withLabel (replicate 32 0) (labelAt labels 1)) (replicate 255 (record { 0 = 0 })) (replicate 255 (record { 0 = 255 }))
     0 0 (labelAt labels 1) (set before 0 (length labels))
-unfolding runsOf stackOf
+unfolding runsOf stackOf seenAfter
 passed-first labels before some few inside e = record {
   within = some;
   last-is = refl;
@@ -280,14 +283,10 @@ passed-first labels before some few inside e = record {
   ceiling = refl;
   below-long = length-replicate {A = Label} 255 (record { 0 = 0 });
   above-long = length-replicate {A = Label} 255 (record { 0 = 255 });
-  seen-long = length-set (replicate 257 0) (labelAt labels 1) 1 ∙ length-replicate {A = ℕ} 257 0;
-  marks = marks-more (replicate 257 0) (labelAt labels) 1 (length-replicate {A = ℕ} 257 0) (omega arith) small (marks-none (labelAt labels));
+  seen-is = refl;
   partly = subst (λ (bytes : List ℕ). Partly (tripleAt (labelAt labels)) (length labels) 0 (set bytes 0 (length labels))) (sym e)
       (partly-none (tripleAt (labelAt labels)) (length labels) few);
 }
-  where
-    small : labelAt labels 1 < 257
-    small = let hi : ¬ (length labels < labelAt labels 1) = λ h. inside (1, omega arith, omega arith, inr h) in omega arith
 
 pub passed-all : (labels : List ℕ) (k : ℕ) (seen : List ℕ) (below above : List Label) (p q last : ℕ) (written : List ℕ)
     → Passed labels k seen below above p q last written → length labels ≡ suc k

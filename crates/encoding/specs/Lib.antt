@@ -1,5 +1,5 @@
 -- The pass over the labels.
 pub mod Encoded
--- Laws of it: one label of each run, and marks for the labels seen
+-- Laws of it: one label of each run, and what the marks say of earlier positions
 pub mod Picks
-pub mod Marks
+pub mod Marked

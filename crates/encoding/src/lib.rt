@@ -3,10 +3,11 @@ ghost use mathlib.Core.Path.{_≡_};
 ghost use Prim.Native.Nat.{_+_, _-_, _*_, _≤_, _<_};
 ghost use lib.ListN.{length, replicate};
 ghost use Rattle.bits.specs.Bit.{bit};
+ghost use Rattle.finite.specs.Decide.{Tells};
 ghost use Rattle.record.specs.Labels.{LabelOutside};
 ghost use Rattle.record.specs.TripleNumber.{tripleOf};
 ghost use Rattle.record.specs.TripleSet.{TripleSet};
-ghost use Rattle.encoding.specs.Encoded.{Encoded, pastRuns};
+ghost use Rattle.encoding.specs.Encoded.{Encoded, PastRuns};
 use record::Label;
 
 // 1 where the test holds, else 0.
@@ -16,12 +17,15 @@ fn one_if(test: bool) -> usize
     if test { 1 } else { 0 }
 }
 
-// On how many sides the label is past the nearest run. It can be so only on the side to which it turns, and there is no need to ask
+// Whether the label is past the nearest run on some side. It can be so only on the side to which it turns, and there is no need to ask
 // which side that is.
-fn past_runs(label: Label, below: Label, above: Label) -> usize
-    ensures { λ r. ⌜ (r ≡ pastRuns (label .0) (below .0) (above .0)) × (r ≤ 2) ⌝ }
+fn past_runs(label: Label, below: Label, above: Label) -> bool
+    ensures { λ r. ⌜ Tells r (PastRuns (label .0) (below .0) (above .0)) ⌝ }
 {
-    one_if(label.0 < below.0) + one_if(above.0 < label.0)
+    if label.0 < below.0 {
+        return true;
+    }
+    above.0 < label.0
 }
 
 // How many runs lie on one side after a step: one more, less one for a step toward that side, less one that the label is joined to.
@@ -52,33 +56,34 @@ pub fn encode(labels: &[u8], record: &mut [u8]) -> bool
 {
     let n = labels.len();
     record[0] = n as u8;
-    let mut seen = [0u8; 257];
+    let mut seen = [0u8; 32];
     let mut below = [Label(0); 255];
     let mut above = [Label(255); 255];
     let mut runs_below = 0;
     let mut runs_above = 0;
     let mut last = Label(labels[0]);
-    let first = last.index();
-    seen[first] = 1;
+    marks::mark(&mut seen, last.0);
     let mut k = 0;
     while k + 1 < n {
         let label = Label(labels[k + 1]);
         let at = label.index();
         let next_below = below[runs_below];
         let next_above = above[runs_above];
-        if past_runs(label, next_below, next_above) + seen[at] as usize != 0 {
+        if past_runs(label, next_below, next_above) {
             return false;
         }
-        let first_bit = seen[at + 1] as usize;
-        let second_bit = seen[at - 1] as usize;
-        let third_bit = one_if(label.0 < last.0);
         below[runs_below + 1] = last;
         above[runs_above + 1] = last;
+        if marks::mark(&mut seen, label.0) {
+            return false;
+        }
+        let second_bit = marks::mark_of(&seen, at - 1);
+        let first_bit = marks::mark_of(&seen, at + 1);
+        let third_bit = one_if(label.0 < last.0);
         runs_below = runs_after(runs_below, third_bit, second_bit);
         runs_above = runs_after(runs_above, 1 - third_bit, first_bit);
         let triple = 4 * first_bit + 2 * second_bit + third_bit;
         set_triple(record, k + 2, triple as u8);
-        seen[at] = 1;
         last = label;
         k += 1;
     }

@@ -1,13 +1,14 @@
--- A table of bits, in words of w bits: the bit of v is number v % w of word v / w. Setting one bit sets it and no other.
-use mathlib.Core.Path.{_≡_, sym, ap, _∙_}
+-- A table of bits, in words: bit j of word i, counted from the low end. Setting one bit sets it and no other. With words of w bits the bit
+-- of v may be number v % w of word v / w.
+use mathlib.Core.Path.{_≡_, refl, sym, ap, _∙_}
 use mathlib.Core.Logic.{_≢_, inl, inr}
 use mathlib.Core.List.{List}
-use Prim.Native.Nat.{ℕ, suc, _+_, _-_, _*_, _/_, _%_, _^_, _≤_, _<_, zero-le}
+use Prim.Native.Nat.{ℕ, zero, suc, _+_, _-_, _*_, _/_, _%_, _^_, _≤_, _<_, zero-le}
 use native.Mathlib.Nat.{div-add-mod', div-eq-of-lt, mul-assoc, mul-le-mul-right}
 use native.Mathlib.Decide.{ℕ-discrete}
 use native.Mathlib.Omega.{arith}
-use lib.Bits.{bitAnd, bitOr, and-shr, and-mod, or-shr, or-mod, or-zero-r, shifted-even}
-use lib.ListN.{length, getD, set, length-set, replicate, length-replicate, getD-replicate, List·getD-eq-default}
+use lib.Bits.{bitAnd, bitOr, and-high, and-shr, and-mod, or-add-and, or-shr, or-mod, or-zero-r, shifted-even}
+use lib.ListN.{length, getD, set, length-set, replicate}
 use lib.Pow.{pow-add, pow-lt, pow-pos, shl-shr}
 use lib.Seq.{getD-set-same, getD-set-other}
 use Rattle.finite.specs.Decide.{le-or-lt, eq-or-ne, stable}
@@ -17,12 +18,19 @@ use Rattle.finite.specs.Search.{Some, dec-some}
 abbrev pub digit : (n j : ℕ) → ℕ
 digit n j = n / 2 ^ j % 2
 
+abbrev pub digitOf : (words : List ℕ) (i j : ℕ) → ℕ
+digitOf words i j = digit (getD words i 0) j
+
+-- with a bit put to bit j of word i
+abbrev pub withDigit : (words : List ℕ) (i j bit : ℕ) → List ℕ
+withDigit words i j bit = set words i (bitOr (getD words i 0) (bit * 2 ^ j))
+
 abbrev pub bitOf : (w : ℕ) (words : List ℕ) (v : ℕ) → ℕ
-bitOf w words v = digit (getD words (v / w) 0) (v % w)
+bitOf w words v = digitOf words (v / w) (v % w)
 
 -- with a bit put to that of v
 abbrev pub withBit : (w : ℕ) (words : List ℕ) (v bit : ℕ) → List ℕ
-withBit w words v bit = set words (v / w) (bitOr (getD words (v / w) 0) (bit * 2 ^ (v % w)))
+withBit w words v bit = withDigit words (v / w) (v % w) bit
 
 pub length-with-bit : (w : ℕ) (words : List ℕ) (v bit : ℕ) → length (withBit w words v bit) ≡ length words
 length-with-bit w words v bit = length-set words (v / w) (bitOr (getD words (v / w) 0) (bit * 2 ^ (v % w)))
@@ -36,6 +44,12 @@ digit-and a b j = ap (λ (x : ℕ). x % 2) (and-shr a b j) ∙ and-mod (a / 2 ^ 
 
 digit-or : (a b j : ℕ) → digit (bitOr a b) j ≡ bitOr (digit a j) (digit b j)
 digit-or a b j = ap (λ (x : ℕ). x % 2) (or-shr a b j) ∙ or-mod (a / 2 ^ j) (b / 2 ^ j) 1
+
+-- a digit set by an or adds what it is worth, except where it was set already
+pub or-digit : (x j : ℕ) → bitOr x (1 * 2 ^ j) + digit x j * 2 ^ j ≡ x + 1 * 2 ^ j
+or-digit x j =
+    let one : 2 ^ (1 + j) - 2 ^ j ≡ 1 * 2 ^ j = omega (arith, pow-add 2 1 j) in
+    ap (λ (y : ℕ). bitOr x (1 * 2 ^ j) + y) (sym (and-high x 1 j) ∙ ap (bitAnd x) one) ∙ or-add-and x (1 * 2 ^ j)
 
 -- a byte that is not 0 has a digit that is not
 pub some-digit : (x : ℕ) → x < 256 → x ≢ 0 → Some (λ i. digit x i ≡ 1) 0 8
@@ -60,15 +74,18 @@ some-digit x small not = stable (dec-some (λ i. digit x i ≡ 1) (λ i. ℕ-dis
 same-quotient-and-remainder : (u v w : ℕ) → u / w ≡ v / w → u % w ≡ v % w → u ≡ v
 same-quotient-and-remainder u v w e f = sym (div-add-mod' u w) ∙ (λ j. e j * w + f j) ∙ div-add-mod' v w
 
--- a table of zeros has no bit set
+-- zeros, as a list, have zero at each place
+pub zeros-at : (n i : ℕ) → getD {A = ℕ} (replicate n 0) i 0 ≡ 0
+zeros-at zero i = refl
+zeros-at (suc n) zero = refl
+zeros-at (suc n) (suc i) = zeros-at n i
+
+-- and as a table no bit set
+pub digit-none : (n i j : ℕ) → digitOf (replicate n 0) i j ≡ 0
+digit-none n i j = ap (λ (x : ℕ). digit x j) (zeros-at n i) ∙ digit-zero j
+
 pub bit-none : (w n v : ℕ) → bitOf w (replicate n 0) v ≡ 0
-bit-none w n v = ap (λ (x : ℕ). digit x (v % w)) (none n (v / w)) ∙ digit-zero (v % w)
-  where
-    none : (n at : ℕ) → getD {A = ℕ} (replicate n 0) at 0 ≡ 0
-    none n at = elim (le-or-lt n at) [
-      | inl past ↦ List·getD-eq-default (replicate n 0) 0 (omega (arith, length-replicate {A = ℕ} n 0))
-      | inr h ↦ getD-replicate n at 0 0 h
-    ]
+bit-none w n v = digit-none n (v / w) (v % w)
 
 module _ (bit : ℕ) (small : bit ≤ 1) where
   digit-here : (k : ℕ) → digit (bit * 2 ^ k) k ≡ bit
@@ -94,22 +111,29 @@ module _ (bit : ℕ) (small : bit ≤ 1) where
         ap (λ (x : ℕ). digit (bit * 2 ^ x) j) (sym e) ∙ digit-above (k - j - 1) j
   ]
 
-  module _ (w : ℕ) (positive : 0 < w) (words : List ℕ) (v : ℕ) (inside : v / w < length words) where
+  module _ (words : List ℕ) (i j : ℕ) (inside : i < length words) where
     abbrev word : ℕ
-    word = getD words (v / w) 0
+    word = getD words i 0
 
+    pub digit-put : digitOf (withDigit words i j bit) i j ≡ bitOr (digitOf words i j) bit
+    digit-put =
+        ap (λ (x : ℕ). digit x j) (getD-set-same words i (bitOr word (bit * 2 ^ j)) 0 inside)
+        ∙ digit-or word (bit * 2 ^ j) j ∙ ap (bitOr (digit word j)) (digit-here j)
+
+    pub digit-kept : (h l : ℕ) → ¬ ((h ≡ i) × (l ≡ j)) → digitOf (withDigit words i j bit) h l ≡ digitOf words h l
+    digit-kept h l differ = elim (eq-or-ne h i) [
+      | inr other ↦ ap (λ (x : ℕ). digit x l) (getD-set-other words i h (bitOr word (bit * 2 ^ j)) 0 other)
+      | inl same ↦
+          ap (λ (at : ℕ). digit (getD (withDigit words i j bit) at 0) l) same
+          ∙ ap (λ (x : ℕ). digit x l) (getD-set-same words i (bitOr word (bit * 2 ^ j)) 0 inside)
+          ∙ digit-or word (bit * 2 ^ j) l ∙ ap (bitOr (digit word l)) (digit-other j l (λ e. differ (same, sym e)))
+          ∙ or-zero-r (digit word l) ∙ ap (λ (at : ℕ). digit (getD words at 0) l) (sym same)
+    ]
+
+  module _ (w : ℕ) (words : List ℕ) (v : ℕ) (inside : v / w < length words) where
     pub bit-put : bitOf w (withBit w words v bit) v ≡ bitOr (bitOf w words v) bit
-    bit-put =
-        ap (λ (x : ℕ). digit x (v % w)) (getD-set-same words (v / w) (bitOr word (bit * 2 ^ (v % w))) 0 inside)
-        ∙ digit-or word (bit * 2 ^ (v % w)) (v % w) ∙ ap (bitOr (digit word (v % w))) (digit-here (v % w))
+    bit-put = digit-put words (v / w) (v % w) inside
 
     pub bit-kept : (u : ℕ) → u ≢ v → bitOf w (withBit w words v bit) u ≡ bitOf w words u
-    bit-kept u differ = elim (eq-or-ne (u / w) (v / w)) [
-      | inr other ↦ ap (λ (x : ℕ). digit x (u % w)) (getD-set-other words (v / w) (u / w) (bitOr word (bit * 2 ^ (v % w))) 0 other)
-      | inl same ↦
-          ap (λ (at : ℕ). digit (getD (withBit w words v bit) at 0) (u % w)) same
-          ∙ ap (λ (x : ℕ). digit x (u % w)) (getD-set-same words (v / w) (bitOr word (bit * 2 ^ (v % w))) 0 inside)
-          ∙ digit-or word (bit * 2 ^ (v % w)) (u % w)
-          ∙ ap (bitOr (digit word (u % w))) (digit-other (v % w) (u % w) (λ e. differ (same-quotient-and-remainder u v w same (sym e))))
-          ∙ or-zero-r (digit word (u % w)) ∙ ap (λ (at : ℕ). digit (getD words at 0) (u % w)) (sym same)
-    ]
+    bit-kept u differ =
+        digit-kept words (v / w) (v % w) inside (u / w) (u % w) (λ (e, f). differ (same-quotient-and-remainder u v w e f))

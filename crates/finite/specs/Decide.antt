@@ -1,5 +1,5 @@
 -- Deciding a statement: combinations of decided statements, and a Bool that tells which way a decision went.
-use mathlib.Core.Path.{_≡_, refl, sym}
+use mathlib.Core.Path.{_≡_, refl, sym, subst}
 use mathlib.Core.Logic.{_≢_, _⊎_, inl, inr}
 use mathlib.Core.Bool.{Bool, true, false, not, _&&_, _||_}
 use Prim.Native.Nat.{ℕ, _≤_, _<_}
@@ -133,6 +133,13 @@ not-true false e = refl
 pub not-false : (b : Bool) → not b ≡ false → b ≡ true
 not-false true e = refl
 not-false false e = sym e
+
+-- what is told
+pub told : {A : Type 0} {b : Bool} → b ≡ true → Tells b A → A
+told {A} e t = subst (λ (b : Bool). Tells b A) e t
+
+pub told-not : {A : Type 0} {b : Bool} → b ≡ false → Tells b A → ¬ A
+told-not {A} e t = subst (λ (b : Bool). Tells b A) e t
 
 pub tells-same : (A : Type 0) (b c : Bool) → Tells b A → Tells c A → b ≡ c
 tells-same A true true s t = refl

@@ -1,7 +1,7 @@
 -- A bit that says whether a statement holds, as a number; and a loop that looks at the numbers below n in turn: what one more number does
 -- to whether some number has been found.
 use mathlib.Core.Path.{_≡_, refl, sym, subst, _∙_}
-use mathlib.Core.Logic.{_⊎_, inl, inr}
+use mathlib.Core.Logic.{_⊎_, _≢_, inl, inr}
 use Prim.Native.Nat.{ℕ, zero, suc, _+_, _*_, _≤_, max, zero-le}
 use native.Mathlib.Omega.{arith}
 use lib.Bits.{bitAnd, bitOr}
@@ -55,6 +55,15 @@ marks-yes (inr (e, h)) x = absurd (h x)
 pub marks-no : {A : Type 0} {a : ℕ} → Marks a A → ¬ A → a ≡ 0
 marks-no (inl (e, h)) x = absurd (x h)
 marks-no (inr (e, h)) x = e
+
+-- and what a bit says of it
+pub marks-holds : {A : Type 0} {a : ℕ} → Marks a A → a ≡ 1 → A
+marks-holds (inl (e, h)) one = h
+marks-holds (inr (e, h)) one = absurd (omega arith)
+
+pub marks-fails : {A : Type 0} {a : ℕ} → Marks a A → a ≢ 1 → ¬ A
+marks-fails (inl (e, h)) other = absurd (other e)
+marks-fails (inr (e, h)) other = h
 
 -- two bits that mark the same are the same
 pub marks-once : {A : Type 0} {a b : ℕ} → Marks a A → Marks b A → a ≡ b

@@ -7,7 +7,6 @@ ghost use Rattle.finite.specs.Decide.{Tells};
 ghost use Rattle.record.specs.Labels.{LabelOutside, LabelTwice};
 ghost use Rattle.record.specs.Answer.{LabelsIn};
 ghost use Rattle.labels.specs.Verdict.{verdictOf};
-use record::Label;
 use record::LabelsAnswer;
 use record::Refusal;
 
@@ -43,16 +42,13 @@ pub fn outside(labels: &[u8]) -> bool
 fn twice(labels: &[u8]) -> bool
     ensures { λ r. ⌜ Tells r (LabelTwice (now (labels .entry))) ⌝ }
 {
-    let mut seen = [0u8; 257];
+    let mut seen = [0u8; 32];
     let n = labels.len();
     let mut i = 0;
     while i < n {
-        let label = Label(labels[i]);
-        let at = label.index();
-        if seen[at] == 1 {
+        if marks::mark(&mut seen, labels[i]) {
             return true;
         }
-        seen[at] = 1;
         i += 1;
     }
     false

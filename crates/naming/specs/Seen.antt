@@ -70,9 +70,9 @@ module _ (name : ℕ → ℕ) (i size : ℕ) (words : List ℕ) (long : length w
   seen-more v h = elim (eq-or-ne v (name i)) [
     | inl e ↦ subst (λ (u : ℕ). Marks (bitOf 64 after u) (SeenBefore name (i + 1) u)) (sym e)
         (subst (λ (bit : ℕ). Marks bit (SeenBefore name (i + 1) (name i)))
-        (sym (bit-put (bitFor (name i)) (bit-small (name i)) 64 (omega arith) words (name i) inside))
+        (sym (bit-put (bitFor (name i)) (bit-small (name i)) 64 words (name i) inside))
         (here (seen (name i) small) (bit-for-marks (name i))))
     | inr ne ↦ subst (λ (bit : ℕ). Marks bit (SeenBefore name (i + 1) v))
-        (sym (bit-kept (bitFor (name i)) (bit-small (name i)) 64 (omega arith) words (name i) inside v ne))
+        (sym (bit-kept (bitFor (name i)) (bit-small (name i)) 64 words (name i) inside v ne))
         (marks-same (seen v h) (λ (named, (k, l, less, e)). (named, (k, l, omega arith, e))) (elsewhere v ne))
   ]

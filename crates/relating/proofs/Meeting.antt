@@ -13,7 +13,7 @@ use lib.Seq.{getD-set-same, getD-set-other}
 use Rattle.finite.specs.Decide.{Tells, tells-iff, eq-or-ne}
 use Rattle.finite.specs.Search.{Some}
 use Rattle.finite.specs.Marks.{Marks, marks-le, or-is-max, marks-and, marks-same, marks-more, marks-tell}
-use Rattle.bits.specs.Pack.{zeros-at}
+use Rattle.finite.specs.BitTable.{zeros-at}
 use Rattle.record.specs.Labels.{labelAt}
 use Rattle.record.specs.Record.{tripleIn}
 use Rattle.steps.specs.declared.Turn.{Turn}

@@ -2,12 +2,14 @@
 -- away and what the next turn leaves.
 use mathlib.Core.List.{List}
 use mathlib.Core.Path.{_≡_, sym, ap, _∙_}
-use Prim.Native.Nat.{ℕ, _+_, _-_, _*_, _≤_}
+use Prim.Native.Nat.{ℕ, _+_, _-_, _*_}
 use native.Mathlib.Omega.{arith}
 use lib.ListN.{length, getD, length-replicate}
 use borrow.Author.Needs.{needs}
+use Rattle.finite.specs.Decide.{told, told-not}
 use Rattle.record.specs.TripleNumber.{tripleOf}
 use Rattle.record.specs.TripleSet.{TripleSet}
+use Rattle.marks.specs.Seen.{markOf, withLabel}
 use Rattle.encoding.proofs.Passed.{Passed, passed-first, passed-all}
 use Rattle.encoding.proofs.Turn.{Turn, Taken, turn-of}
 use Rattle.encoding.proofs.encode.Statement.{statement}
@@ -18,23 +20,29 @@ use Rattle.encoding.proofs.one_if.Reads as one-if-reads
 use Rattle.encoding.proofs.past_runs.Reads as past-runs-reads
 use Rattle.encoding.proofs.runs_after.Reads as runs-after-reads
 use Rattle.encoding.proofs.set_triple.Reads as set-triple-reads
+use Rattle.marks.proofs.mark.Reads as mark-reads
+use Rattle.marks.proofs.mark_of.Reads as mark-of-reads
 use Rattle.record.proofs.Label.index.Reads as index-reads
 
 abbrev Inv-loop : tie.InvT-loop
-Inv-loop labels record₀ n seen₀ below₀ above₀ runs-below₀ runs-above₀ last₀ first k₀ «record» seen below above runs-below runs-above last k =
+Inv-loop labels record₀ n seen₀ below₀ above₀ runs-below₀ runs-above₀ last₀ k₀ «record» seen below above runs-below runs-above last k =
     Passed labels k seen below above runs-below runs-above (last .0) «record»
 
 abbrev μ-loop : tie.MeasureT-loop
-μ-loop labels record₀ n seen₀ below₀ above₀ runs-below₀ runs-above₀ last₀ first k₀ «record» seen below above runs-below runs-above last k =
+μ-loop labels record₀ n seen₀ below₀ above₀ runs-below₀ runs-above₀ last₀ k₀ «record» seen below above runs-below runs-above last k =
     length labels - k
 
 -- what the functions that are called claim
 abbrev called : lts.Claims
 called = (
+  mark-reads.Asked,
+  mark-reads.Learnt,
   index-reads.Asked,
   index-reads.Learnt,
   past-runs-reads.Asked,
   past-runs-reads.Learnt,
+  mark-of-reads.Asked,
+  mark-of-reads.Learnt,
   one-if-reads.Asked,
   one-if-reads.Learnt,
   runs-after-reads.Asked,
@@ -43,16 +51,19 @@ called = (
   set-triple-reads.Learnt,
 )
 
--- the places of the code: between two turns, where the label's index is known, where the label is taken, where its triple is known,
--- and where that is set
+-- the places of the code: between two turns, where the label's index is known, where the label is not past a run, where it is taken,
+-- where its triple is known, and where that is set
 abbrev Between : Type 0
 Between = lts.At-loop called reads.Pre reads.Post Inv-loop μ-loop
 
 abbrev Indexed : Type 0
-Indexed = lts.After-index2 called reads.Pre reads.Post Inv-loop μ-loop
+Indexed = lts.After-index called reads.Pre reads.Post Inv-loop μ-loop
+
+abbrev Clear : Type 0
+Clear = lts.Else1 called reads.Pre reads.Post Inv-loop μ-loop
 
 abbrev Kept : Type 0
-Kept = lts.Else1 called reads.Pre reads.Post Inv-loop μ-loop
+Kept = lts.Else2 called reads.Pre reads.Post Inv-loop μ-loop
 
 abbrev Told : Type 0
 Told = lts.After-one-if called reads.Pre reads.Post Inv-loop μ-loop
@@ -60,51 +71,78 @@ Told = lts.After-one-if called reads.Pre reads.Post Inv-loop μ-loop
 abbrev TripleDone : Type 0
 TripleDone = lts.After-set-triple called reads.Pre reads.Post Inv-loop μ-loop
 
+-- from a place to one before it
+abbrev between : Indexed → Between
+between i = i .before .before .before
+
+abbrev indexed : Clear → Indexed
+indexed e = e .before .before .before .before
+
+abbrev clear : Kept → Clear
+clear e = e .before .before .before
+
+abbrev kept : Told → Kept
+kept o = o .before .before .before .before .before .before .before
+
+-- the first and the second bit of the triple
+abbrev first-bit : Told → ℕ
+first-bit o = o .before .before .before .mark-of2 .result
+
+abbrev second-bit : Told → ℕ
+second-bit o = o .before .before .before .before .before .mark-of .result
+
 -- the labels that were lent
 abbrev labelsAt : Between → List ℕ
-labelsAt l = l .before .before .before .before .before .args .labels .now
+labelsAt l = l .before .before .before .before .before .before .args .labels .now
 
 -- the turn that follows
-turn : (e : Indexed)
-    → let l = e .before .before .before in
+turn : (i : Indexed)
+    → let l = between i in
     Turn (labelsAt l) (l .loop .k) (l .loop .seen) (l .loop .below) (l .loop .above) (l .loop .runs-below) (l .loop .runs-above)
     (l .loop .last .0) (l .loop .«record») (getD (labelsAt l) (l .loop .k + 1) 0)
-turn e =
-    let l = e .before .before .before in
-    let s = l .before .before .before .before .before in
-    turn-of (l .loop .inv) (e .before .before .loop-test .taken) (s .pre .0 .1) (s .pre .1 .0)
+turn i =
+    let l = between i in
+    let s = l .before .before .before .before .before .before in
+    turn-of (l .loop .inv) (i .before .before .loop-test .taken) (s .pre .0 .1) (s .pre .1 .0)
 
-taken : (e : Kept)
-    → let l = e .before .before .before .before .before .before .before in
+-- the marks beside the label, as they are read when it is marked
+marked : (o : Told)
+    → let i = indexed (clear (kept o)) in
+    let label = getD (labelsAt (between i)) (between i .loop .k + 1) 0 in
+    let seen = withLabel (between i .loop .seen) label in
+    (first-bit o ≡ markOf seen (label + 1)) × (second-bit o ≡ markOf seen (label - 1))
+marked o =
+    let e = kept o in
+    let at = indexed (clear e) .index .ensures .0 in
+    let seen = e .before .mark2 .ensures .1 in (
+      o .before .before .before .mark-of2 .ensures .0 ∙ (λ j. markOf (seen j) (at j + 1)),
+      o .before .before .before .before .before .mark-of .ensures .0 ∙ (λ j. markOf (seen j) (at j - 1)),
+    )
+
+-- the label is taken
+taken : (o : Told)
+    → let l = between (indexed (clear (kept o))) in
     Taken (labelsAt l) (l .loop .k) (l .loop .seen) (l .loop .below) (l .loop .above) (l .loop .runs-below) (l .loop .runs-above)
-    (l .loop .last .0) (l .loop .«record») (getD (labelsAt l) (l .loop .k + 1) 0)
-taken e =
-    let i = e .before .before .before .before in
-    turn i .take (e .before .past-runs .result) (e .before .past-runs .ensures .0) (rw (i .index2 .ensures .0) at (e .if1 .left))
-
--- the three bits of the triple
-small : (o : Told)
-    → let i = o .before .before .before .before .before .before .before in
-    let seen = i .before .before .before .loop .seen in
-    (getD seen (i .index2 .result + 1) 0 ≤ 1) × (getD seen (i .index2 .result - 1) 0 ≤ 1) × (o .one-if .result ≤ 1)
-small o =
-    let i = o .before .before .before .before .before .before .before in
-    rw (i .index2 .ensures .0) (turn i .first-small, turn i .second-small, o .one-if .ensures .1)
+    (l .loop .last .0) (l .loop .«record») (getD (labelsAt l) (l .loop .k + 1) 0) (first-bit o) (second-bit o) (o .one-if .result)
+taken o =
+    let e = kept o in
+    turn (indexed (clear e)) .take (told-not (clear e .if1 .left) (clear e .before .past-runs .ensures))
+    (told-not (e .if2 .left) (e .before .mark2 .ensures .0)) (first-bit o) (second-bit o) (o .one-if .result) (marked o .0) (marked o .1)
+    (o .one-if .ensures .0)
 
 -- the triple of the next position is set
 triple-set : (c : TripleDone)
     → let o = c .before .before .before .before in
-    let i = o .before .before .before .before .before .before .before in
-    let l = i .before .before .before in
-    let seen = l .loop .seen in
-    let at = i .index2 .result in
+    let l = between (indexed (clear (kept o))) in
     TripleSet (l .loop .«record») (c .set-triple .last .0) (l .loop .k + 2)
-    (tripleOf (4 * getD seen (at + 1) 0 + 2 * getD seen (at - 1) 0 + o .one-if .result))
+    (tripleOf (4 * first-bit o + 2 * second-bit o + o .one-if .result))
 triple-set c = c .set-triple .ensures
 
 -- the record slice keeps its length
-as-long : (l : Between) → length (l .loop .«record») ≡ length (l .before .before .before .before .before .args .«record» .now)
-as-long l = l .loop .inv .partly .long ∙ sym (ap length (l .before .before .before .before .before .pre .1 .1) ∙ length-replicate {A = ℕ} 97 0)
+as-long : (l : Between) → length (l .loop .«record») ≡ length (l .before .before .before .before .before .before .args .«record» .now)
+as-long l =
+    l .loop .inv .partly .long
+    ∙ sym (ap length (l .before .before .before .before .before .before .pre .1 .1) ∙ length-replicate {A = ℕ} 97 0)
 
 cast-record : tie.Need-cast-record Inv-loop μ-loop
 cast-record c = search needs
@@ -112,32 +150,29 @@ cast-record c = search needs
 slice-write-record : tie.Need-slice-write-record Inv-loop μ-loop
 slice-write-record c = let s = c .before .before in omega (arith, ap length (s .pre .1 .1), length-replicate {A = ℕ} 97 0)
 
-shared-slice-read-t20 : tie.Need-shared-slice-read-t20 Inv-loop μ-loop
-shared-slice-read-t20 c = search needs
+shared-slice-read-t19 : tie.Need-shared-slice-read-t19 Inv-loop μ-loop
+shared-slice-read-t19 c = search needs
 
-index-requires : tie.Need-index-requires Inv-loop μ-loop
-index-requires c κs = search needs
-
-array-write-seen : tie.Need-array-write-seen Inv-loop μ-loop
-array-write-seen c = omega (arith, c .index .ensures)
+mark-requires : tie.Need-mark-requires Inv-loop μ-loop
+mark-requires c κs = search needs
 
 loop-holds : tie.Need-loop-holds Inv-loop μ-loop
 loop-holds c =
-    let s = c .before .before .before .before in
-    rw (c .index .ensures .0)
+    let s = c .before .before .before .before .before in
+    rw (c .mark .ensures .1)
     (passed-first (s .args .labels .now) (s .args .«record» .now) (s .pre .0 .0) (s .pre .0 .1) (s .pre .1 .0) (s .pre .1 .1))
 
 add-loop : tie.Need-add-loop Inv-loop μ-loop
 add-loop c = search needs
 
-add-if1 : tie.Need-add-if1 Inv-loop μ-loop
-add-if1 c = search needs
+add-set-triple : tie.Need-add-set-triple Inv-loop μ-loop
+add-set-triple c = search needs
 
-shared-slice-read-if1 : tie.Need-shared-slice-read-if1 Inv-loop μ-loop
-shared-slice-read-if1 c = search needs
+shared-slice-read-set-triple : tie.Need-shared-slice-read-set-triple Inv-loop μ-loop
+shared-slice-read-set-triple c = search needs
 
-index-requires-2 : tie.Need-index-requires-2 Inv-loop μ-loop
-index-requires-2 c κs = search needs
+index-requires : tie.Need-index-requires Inv-loop μ-loop
+index-requires c κs = search needs
 
 array-copy-out-next-below : tie.Need-array-copy-out-next-below Inv-loop μ-loop
 array-copy-out-next-below c = omega (arith, turn c .room-below)
@@ -148,130 +183,109 @@ array-copy-out-next-above c = omega (arith, turn (c .before) .room-above)
 past-runs-requires : tie.Need-past-runs-requires Inv-loop μ-loop
 past-runs-requires c κs = search needs
 
-array-read-if1 : tie.Need-array-read-if1 Inv-loop μ-loop
-array-read-if1 c = omega (arith, c .before .before .before .index2 .ensures)
-
-cast-if1 : tie.Need-cast-if1 Inv-loop μ-loop
-cast-if1 c = let i = c .before .before .before in rw (i .index2 .ensures .0) (omega (arith, turn i .mark-small))
-
-add-if1-2 : tie.Need-add-if1-2 Inv-loop μ-loop
-add-if1-2 c = let i = c .before .before .before in rw (i .index2 .ensures .0) (omega (arith, turn i .mark-small, c .past-runs .ensures .1))
-
 same-length : tie.Need-same-length Inv-loop μ-loop
-same-length c = as-long (c .before .before .before .before .before .before .before)
+same-length c = as-long (between (c .before .before .before .before))
 
 returns : tie.Need-returns Inv-loop μ-loop
-returns c =
-    let i = c .before .before .before .before in
-    turn i .away (c .before .past-runs .result) (c .before .past-runs .ensures .0) (rw (i .index2 .ensures .0) at (c .if1 .taken))
-
-add-first-bit : tie.Need-add-first-bit Inv-loop μ-loop
-add-first-bit c = search needs
-
-array-read-first-bit : tie.Need-array-read-first-bit Inv-loop μ-loop
-array-read-first-bit c = omega (arith, c .before .before .before .before .index2 .ensures)
-
-cast-first-bit : tie.Need-cast-first-bit Inv-loop μ-loop
-cast-first-bit c = let i = c .before .before .before .before in rw (i .index2 .ensures .0) (omega (arith, turn i .first-small))
-
-sub-second-bit : tie.Need-sub-second-bit Inv-loop μ-loop
-sub-second-bit c = omega (arith, c .before .before .before .before .index2 .ensures, turn (c .before .before .before .before) .low)
-
-array-read-second-bit : tie.Need-array-read-second-bit Inv-loop μ-loop
-array-read-second-bit c = omega (arith, c .before .before .before .before .index2 .ensures)
-
-cast-second-bit : tie.Need-cast-second-bit Inv-loop μ-loop
-cast-second-bit c = let i = c .before .before .before .before in rw (i .index2 .ensures .0) (omega (arith, turn i .second-small))
-
-one-if-requires : tie.Need-one-if-requires Inv-loop μ-loop
-one-if-requires c κs = search needs
+returns c = turn (c .before .before .before .before) .away-past (told (c .if1 .taken) (c .before .past-runs .ensures))
 
 add-below : tie.Need-add-below Inv-loop μ-loop
 add-below c = search needs
 
 array-set-from-below : tie.Need-array-set-from-below Inv-loop μ-loop
-array-set-from-below c = turn (c .before .before .before .before .before .before .before) .room-below
+array-set-from-below c = turn (indexed c) .room-below
 
 add-above : tie.Need-add-above Inv-loop μ-loop
 add-above c = search needs
 
 array-set-from-above : tie.Need-array-set-from-above Inv-loop μ-loop
-array-set-from-above c = turn (c .before .before .before .before .before .before .before) .room-above
+array-set-from-above c = turn (indexed c) .room-above
+
+mark-requires-2 : tie.Need-mark-requires-2 Inv-loop μ-loop
+mark-requires-2 c κs = turn (indexed (c .before)) .seen-long
+
+same-length-2 : tie.Need-same-length-2 Inv-loop μ-loop
+same-length-2 c = as-long (between (indexed (c .before .before .before)))
+
+returns-2 : tie.Need-returns-2 Inv-loop μ-loop
+returns-2 c = turn (indexed (c .before .before .before)) .away-seen (told (c .if2 .taken) (c .before .mark2 .ensures .0))
+
+sub-mark-of : tie.Need-sub-mark-of Inv-loop μ-loop
+sub-mark-of c = let i = indexed (clear (c .before)) in omega (arith, i .index .ensures, turn i .low)
+
+mark-of-requires : tie.Need-mark-of-requires Inv-loop μ-loop
+mark-of-requires c κs = let i = indexed (clear (c .before)) in omega (arith, i .index .ensures)
+
+add-mark-of : tie.Need-add-mark-of Inv-loop μ-loop
+add-mark-of c = search needs
+
+mark-of-requires-2 : tie.Need-mark-of-requires-2 Inv-loop μ-loop
+mark-of-requires-2 c κs = let i = indexed (clear (c .before .before .before)) in omega (arith, i .index .ensures)
+
+one-if-requires : tie.Need-one-if-requires Inv-loop μ-loop
+one-if-requires c κs = search needs
 
 runs-after-requires : tie.Need-runs-after-requires Inv-loop μ-loop
-runs-after-requires c κs =
-    let e = c .before .before .before in
-    let i = e .before .before .before .before in
-    rw (i .index2 .ensures .0, c .one-if .ensures .0) (taken e .enough-below, omega (arith, turn i .room-below))
+runs-after-requires c κs = (taken c .enough-below, omega (arith, turn (indexed (clear (kept c))) .room-below))
 
 sub-runs-after : tie.Need-sub-runs-after Inv-loop μ-loop
 sub-runs-after c = search needs
 
 runs-after-requires-2 : tie.Need-runs-after-requires-2 Inv-loop μ-loop
-runs-after-requires-2 c κs =
-    let e = c .before .before .before .before in
-    let i = e .before .before .before .before in
-    rw (i .index2 .ensures .0, c .before .one-if .ensures .0) (taken e .enough-above, omega (arith, turn i .room-above))
+runs-after-requires-2 c κs = (taken (c .before) .enough-above, omega (arith, turn (indexed (clear (kept (c .before)))) .room-above))
 
 mul-triple : tie.Need-mul-triple Inv-loop μ-loop
-mul-triple c = omega (arith, small (c .before .before))
+mul-triple c = search needs
 
 mul-triple-2 : tie.Need-mul-triple-2 Inv-loop μ-loop
-mul-triple-2 c = omega (arith, small (c .before .before))
+mul-triple-2 c = search needs
 
 add-triple : tie.Need-add-triple Inv-loop μ-loop
-add-triple c = omega (arith, small (c .before .before))
+add-triple c = search needs
 
 add-triple-2 : tie.Need-add-triple-2 Inv-loop μ-loop
-add-triple-2 c = omega (arith, small (c .before .before))
+add-triple-2 c = search needs
 
-add-set-triple : tie.Need-add-set-triple Inv-loop μ-loop
-add-set-triple c = search needs
+add-set-triple-2 : tie.Need-add-set-triple-2 Inv-loop μ-loop
+add-set-triple-2 c = search needs
 
 cast-set-triple : tie.Need-cast-set-triple Inv-loop μ-loop
-cast-set-triple c = omega (arith, small (c .before .before .before))
+cast-set-triple c = search needs
 
 set-triple-requires : tie.Need-set-triple-requires Inv-loop μ-loop
 set-triple-requires c κs =
     let o = c .before .before .before in
-    let l = o .before .before .before .before .before .before .before .before .before .before in
+    let i = indexed (clear (kept o)) in
+    let l = between i in
     let room = l .loop .inv .partly .long in (
-      (omega arith, omega (arith, room, l .before .before .before .before .before .pre .0 .1, o .before .before .before .before .before .before .before .before .before .loop-test .taken), omega (arith, room)),
-      omega (arith, small o),
+      (omega arith, omega (arith, room, l .before .before .before .before .before .before .pre .0 .1, i .before .before .loop-test .taken), omega (arith, room)),
+      omega (arith, o .one-if .ensures .1, o .before .before .before .mark-of2 .ensures .1, o .before .before .before .before .before .mark-of .ensures .1),
     )
 
-array-write-seen-2 : tie.Need-array-write-seen-2 Inv-loop μ-loop
-array-write-seen-2 c =
-    let i = c .before .before .before .before .before .before .before .before .before .before .before .before .before in
-    omega (arith, i .index2 .ensures)
-
 add-k : tie.Need-add-k Inv-loop μ-loop
-add-k c = search needs
+add-k c =
+    let i = indexed (clear (kept (c .before .before .before .before .before .before))) in
+    record { fits = omega (arith, i .before .before .loop-test .taken, between i .before .before .before .before .before .before .pre .0 .1) }
 
 loop-less : tie.Need-loop-less Inv-loop μ-loop
 loop-less c = search needs
 
 loop-again : tie.Need-loop-again Inv-loop μ-loop
 loop-again c =
-    let o = c .before .before .before .before .before .before in
-    let e = o .before .before .before in
-    let i = e .before .before .before .before in
-    let below = c .before .before .before .before .before .runs-after in
-    let above = c .before .before .before .before .runs-after2 in
     let set = c .before .before in
-    rw (i .index2 .ensures .0)
-    (taken e .after (below .result) (above .result) (set .set-triple .last .0)
-    (rw (i .index2 .ensures .0, o .one-if .ensures .0) at (below .ensures))
-    (rw (i .index2 .ensures .0, o .one-if .ensures .0) at (above .ensures))
-    (rw (i .index2 .ensures .0, o .one-if .ensures .0) at (triple-set set)))
+    let o = set .before .before .before .before in
+    let e = kept o in
+    rw (e .before .mark2 .ensures .1)
+    (taken o .after (set .before .before .before .runs-after .result) (set .before .before .runs-after2 .result) (set .set-triple .last .0)
+    (set .before .before .before .runs-after .ensures) (set .before .before .runs-after2 .ensures) (triple-set set))
 
-same-length-2 : tie.Need-same-length-2 Inv-loop μ-loop
-same-length-2 c = as-long (c .before)
+same-length-3 : tie.Need-same-length-3 Inv-loop μ-loop
+same-length-3 c = as-long (c .before)
 
-returns-2 : tie.Need-returns-2 Inv-loop μ-loop
-returns-2 c =
+returns-3 : tie.Need-returns-3 Inv-loop μ-loop
+returns-3 c =
     let l = c .before in
-    let s = l .before .before .before .before .before in
+    let s = l .before .before .before .before .before .before in
     passed-all (s .args .labels .now) (l .loop .k) (l .loop .seen) (l .loop .below) (l .loop .above) (l .loop .runs-below)
     (l .loop .runs-above) (l .loop .last .0) (l .loop .«record») (l .loop .inv) (omega (arith, c .loop-test .left, l .loop .inv .within)) (s .pre .0 .1) (s .pre .1 .0)
 
@@ -283,33 +297,30 @@ encode-spec =
     μ-loop
     cast-record
     slice-write-record
-    shared-slice-read-t20
-    index-requires
-    array-write-seen
+    shared-slice-read-t19
+    mark-requires
     loop-holds
     add-loop
-    add-if1
-    shared-slice-read-if1
-    index-requires-2
+    add-set-triple
+    shared-slice-read-set-triple
+    index-requires
     array-copy-out-next-below
     array-copy-out-next-above
     past-runs-requires
-    array-read-if1
-    cast-if1
-    add-if1-2
     same-length
     returns
-    add-first-bit
-    array-read-first-bit
-    cast-first-bit
-    sub-second-bit
-    array-read-second-bit
-    cast-second-bit
-    one-if-requires
     add-below
     array-set-from-below
     add-above
     array-set-from-above
+    mark-requires-2
+    same-length-2
+    returns-2
+    sub-mark-of
+    mark-of-requires
+    add-mark-of
+    mark-of-requires-2
+    one-if-requires
     runs-after-requires
     sub-runs-after
     runs-after-requires-2
@@ -317,12 +328,11 @@ encode-spec =
     mul-triple-2
     add-triple
     add-triple-2
-    add-set-triple
+    add-set-triple-2
     cast-set-triple
     set-triple-requires
-    array-write-seen-2
     add-k
     loop-less
     loop-again
-    same-length-2
-    returns-2)
+    same-length-3
+    returns-3)
