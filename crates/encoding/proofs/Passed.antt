@@ -208,11 +208,11 @@ module _ {labels : List ℕ} {k : ℕ} {seen : List ℕ} {below above : List Lab
     height : (way : Way) → length (runsOf f (suc k) .stack way) + bit (bitsOf t way) + toward (turnOf t) way ≡ length (z .stack way) + 1
     height way = omega (arith, takes-length (joined-takes (taken .joins way)), ahead-length (turnOf t) way z)
 
-    pub enough-below : bit (falls t) + bit (bitsOf t down) ≤ p + 1
-    enough-below = omega (arith, height down, toward-down t, s .count-below)
+    pub enough-below : bit (bitsOf t down) ≤ p + (1 - bit (falls t))
+    enough-below = omega (arith, height down, toward-down t, s .count-below, bit-le (falls t))
 
-    pub enough-above : 1 - bit (falls t) + bit (bitsOf t up) ≤ q + 1
-    enough-above = omega (arith, height up, toward-up t, s .count-above)
+    pub enough-above : bit (bitsOf t up) ≤ q + bit (falls t)
+    enough-above = omega (arith, height up, toward-up t, s .count-above, bit-le (falls t))
 
     next-to : NextTo f (suc k)
     next-to way = one-way (turnOf t) way turns (reach-chained (s .stage .faithful) (s .stage .inside) (fresh-past (s .stage .faithful) (s .stage .inside) taken-fresh turns) free)
@@ -229,7 +229,7 @@ module _ {labels : List ℕ} {k : ℕ} {seen : List ℕ} {below above : List Lab
         (picks-take (set stack (h + 1) x) (joined-takes (taken .joins way)) (picks-ahead (turnOf t) way z stack h x room size picks w))
 
     pub taken-passed : (p-after q-after : ℕ) (after : List ℕ)
-        → p-after + (bit (falls t) + bit (bitsOf t down)) ≡ p + 1 → q-after + (1 - bit (falls t) + bit (bitsOf t up)) ≡ q + 1
+        → p-after + bit (bitsOf t down) ≡ p + (1 - bit (falls t)) → q-after + bit (bitsOf t up) ≡ q + bit (falls t)
         → TripleSet written after (k + 2) (tripleOf (4 * bit (bitsOf t up) + 2 * bit (bitsOf t down) + bit (falls t)))
         → Passed labels (suc k) (withLabel seen v) (set below (p + 1) (record { 0 = last })) (set above (q + 1) (record { 0 = last }))
         p-after q-after v after
@@ -258,10 +258,10 @@ module _ {labels : List ℕ} {k : ℕ} {seen : List ℕ} {below above : List Lab
         position = omega arith
 
         below-size : p-after ≡ length (runsOf f (suc k) .stack down)
-        below-size = omega (arith, height down, toward-down t, s .count-below)
+        below-size = omega (arith, height down, toward-down t, s .count-below, bit-le (falls t))
 
         above-size : q-after ≡ length (runsOf f (suc k) .stack up)
-        above-size = omega (arith, height up, toward-up t, s .count-above)
+        above-size = omega (arith, height up, toward-up t, s .count-above, bit-le (falls t))
 
 -- ---- the start and the end
 pub passed-first : (labels before : List ℕ) → 1 ≤ length labels → length labels ≤ 255 → ¬ LabelOutside labels → before ≡ replicate 97 0

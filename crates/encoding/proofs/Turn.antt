@@ -21,9 +21,9 @@ use Rattle.encoding.proofs.Passed.{Passed, label, seen-long, first-bit,
 
 -- a label that is taken, with the three bits of its triple
 pub record Taken (labels : List ℕ) (k : ℕ) (seen : List ℕ) (below above : List Label) (p q last : ℕ) (written : List ℕ) (w first second third : ℕ) : Type 0 where
-  pub enough-below : third + second ≤ p + 1
-  pub enough-above : 1 - third + first ≤ q + 1
-  pub after : (p-after q-after : ℕ) (written-after : List ℕ) → p-after + (third + second) ≡ p + 1 → q-after + (1 - third + first) ≡ q + 1
+  pub enough-below : second ≤ p + (1 - third)
+  pub enough-above : first ≤ q + third
+  pub after : (p-after q-after : ℕ) (written-after : List ℕ) → p-after + second ≡ p + (1 - third) → q-after + first ≡ q + third
       → TripleSet written written-after (k + 2) (tripleOf (4 * first + 2 * second + third))
       → Passed labels (k + 1) (withLabel seen w) (set below (p + 1) (record { 0 = last })) (set above (q + 1) (record { 0 = last })) p-after q-after w written-after
 

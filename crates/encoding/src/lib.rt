@@ -2,9 +2,10 @@
 ghost use mathlib.Core.Path.{_≡_};
 ghost use Prim.Native.Nat.{_+_, _-_, _*_, _≤_, _<_};
 ghost use lib.ListN.{length, replicate};
-ghost use Rattle.bits.specs.Bit.{bit};
+ghost use Rattle.bits.specs.Bit.{bit, groupAt};
 ghost use Rattle.finite.specs.Decide.{Tells};
 ghost use Rattle.record.specs.Labels.{LabelOutside};
+ghost use Rattle.record.specs.Read.{bodyOf};
 ghost use Rattle.record.specs.TripleNumber.{tripleOf};
 ghost use Rattle.record.specs.TripleSet.{TripleSet};
 ghost use Rattle.encoding.specs.Encoded.{Encoded, PastRuns};
@@ -28,21 +29,22 @@ fn past_runs(label: Label, below: Label, above: Label) -> bool
     above.0 < label.0
 }
 
-// How many runs lie on one side after a step: one more, less one for a step toward that side, less one that the label is joined to.
-fn runs_after(runs: usize, toward: usize, joined: usize) -> usize
-    requires { ⌜ (toward + joined ≤ runs + 1) × (runs ≤ 255) ⌝ }
-    ensures { λ r. ⌜ r + (toward + joined) ≡ runs + 1 ⌝ }
+// How many runs lie on one side after a step: one more for a step away from that side, less one that the label is joined to.
+fn runs_after(runs: usize, away: usize, joined: usize) -> usize
+    requires { ⌜ (joined ≤ runs + away) × (runs ≤ 255) × (away ≤ 1) ⌝ }
+    ensures { λ r. ⌜ r + joined ≡ runs + away ⌝ }
 {
-    runs + 1 - toward - joined
+    runs + away - joined
 }
 
-// Sets the triple of a position from 2 on, a number from 0 to 7, in a record: its three bits, in the bytes that have them.
-fn set_triple(record: &mut [u8], position: usize, triple: u8)
+// Sets the triple of a position from 2 on in a record from the number that it is to another one, both from 0 to 7: its three bits, in the
+// bytes that have them.
+fn set_triple(record: &mut [u8], position: usize, from: u8, to: u8)
     requires { ⌜ (2 ≤ position) × (8 + 3 * (position - 2) + 3 ≤ 8 * length (now «record»)) × (length (now «record») ≤ 97) ⌝
-        ∗ ⌜ triple < 8 ⌝ }
-    ensures { λ _. ⌜ TripleSet (now («record» .entry)) (now («record» .exit)) position (tripleOf triple) ⌝ }
+        ∗ ⌜ to < 8 ⌝ ∗ ⌜ groupAt (bodyOf (now «record»)) (position - 2) ≡ from ⌝ }
+    ensures { λ _. ⌜ TripleSet (now («record» .entry)) (now («record» .exit)) position (tripleOf to) ⌝ }
 {
-    bits::set_group(&mut record[1..], position - 2, triple);
+    bits::set_group(&mut record[1..], position - 2, from, to);
 }
 
 // Writes the record of the labels to the front of 97 bytes that are zero, each triple in its place, in one pass with the other runs in
@@ -67,6 +69,14 @@ pub fn encode(labels: &[u8], record: &mut [u8]) -> bool
     while k + 1 < n {
         let label = Label(labels[k + 1]);
         let at = label.index();
+        if marks::mark(&mut seen, label.0) {
+            return false;
+        }
+        let third_bit = one_if(label.0 < last.0);
+        let second_bit = marks::mark_of(&seen, at - 1);
+        let first_bit = marks::mark_of(&seen, at + 1);
+        let triple = 4 * first_bit + 2 * second_bit + third_bit;
+        set_triple(record, k + 2, 0, triple as u8);
         let next_below = below[runs_below];
         let next_above = above[runs_above];
         if past_runs(label, next_below, next_above) {
@@ -74,16 +84,8 @@ pub fn encode(labels: &[u8], record: &mut [u8]) -> bool
         }
         below[runs_below + 1] = last;
         above[runs_above + 1] = last;
-        if marks::mark(&mut seen, label.0) {
-            return false;
-        }
-        let second_bit = marks::mark_of(&seen, at - 1);
-        let first_bit = marks::mark_of(&seen, at + 1);
-        let third_bit = one_if(label.0 < last.0);
-        runs_below = runs_after(runs_below, third_bit, second_bit);
-        runs_above = runs_after(runs_above, 1 - third_bit, first_bit);
-        let triple = 4 * first_bit + 2 * second_bit + third_bit;
-        set_triple(record, k + 2, triple as u8);
+        runs_below = runs_after(runs_below, 1 - third_bit, second_bit);
+        runs_above = runs_after(runs_above, third_bit, first_bit);
         last = label;
         k += 1;
     }

@@ -2,14 +2,17 @@
 -- away and what the next turn leaves.
 use mathlib.Core.List.{List}
 use mathlib.Core.Path.{_≡_, sym, ap, _∙_}
-use Prim.Native.Nat.{ℕ, _+_, _-_, _*_}
+use Prim.Native.Nat.{ℕ, _+_, _-_, _*_, _≤_}
 use native.Mathlib.Omega.{arith}
 use lib.ListN.{length, getD, length-replicate}
 use borrow.Author.Needs.{needs}
 use Rattle.finite.specs.Decide.{told, told-not}
 use Rattle.record.specs.TripleNumber.{tripleOf}
+use Rattle.bits.specs.Bit.{groupAt}
+use Rattle.record.specs.Read.{bodyOf}
 use Rattle.record.specs.TripleSet.{TripleSet}
 use Rattle.marks.specs.Seen.{markOf, withLabel}
+use Rattle.encoding.proofs.Partly.{next-none}
 use Rattle.encoding.proofs.Passed.{Passed, passed-first, passed-all}
 use Rattle.encoding.proofs.Turn.{Turn, Taken, turn-of}
 use Rattle.encoding.proofs.encode.Statement.{statement}
@@ -39,57 +42,63 @@ called = (
   mark-reads.Learnt,
   index-reads.Asked,
   index-reads.Learnt,
-  past-runs-reads.Asked,
-  past-runs-reads.Learnt,
-  mark-of-reads.Asked,
-  mark-of-reads.Learnt,
   one-if-reads.Asked,
   one-if-reads.Learnt,
-  runs-after-reads.Asked,
-  runs-after-reads.Learnt,
+  mark-of-reads.Asked,
+  mark-of-reads.Learnt,
   set-triple-reads.Asked,
   set-triple-reads.Learnt,
+  past-runs-reads.Asked,
+  past-runs-reads.Learnt,
+  runs-after-reads.Asked,
+  runs-after-reads.Learnt,
 )
 
--- the places of the code: between two turns, where the label's index is known, where the label is not past a run, where it is taken,
--- where its triple is known, and where that is set
+-- the places of the code: between two turns, where the label's index is known, where the label is seen to be new, where its triple is
+-- known, where that is set, and where the label is taken
 abbrev Between : Type 0
 Between = lts.At-loop called reads.Pre reads.Post Inv-loop μ-loop
 
 abbrev Indexed : Type 0
 Indexed = lts.After-index called reads.Pre reads.Post Inv-loop μ-loop
 
-abbrev Clear : Type 0
-Clear = lts.Else1 called reads.Pre reads.Post Inv-loop μ-loop
-
-abbrev Kept : Type 0
-Kept = lts.Else2 called reads.Pre reads.Post Inv-loop μ-loop
+abbrev New : Type 0
+New = lts.Else1 called reads.Pre reads.Post Inv-loop μ-loop
 
 abbrev Told : Type 0
-Told = lts.After-one-if called reads.Pre reads.Post Inv-loop μ-loop
+Told = lts.After-mark-of2 called reads.Pre reads.Post Inv-loop μ-loop
 
 abbrev TripleDone : Type 0
 TripleDone = lts.After-set-triple called reads.Pre reads.Post Inv-loop μ-loop
+
+abbrev Kept : Type 0
+Kept = lts.Else2 called reads.Pre reads.Post Inv-loop μ-loop
 
 -- from a place to one before it
 abbrev between : Indexed → Between
 between i = i .before .before .before
 
-abbrev indexed : Clear → Indexed
-indexed e = e .before .before .before .before
+abbrev indexed : New → Indexed
+indexed e = e .before .before .before
 
-abbrev clear : Kept → Clear
-clear e = e .before .before .before
+abbrev new : Told → New
+new o = o .before .before .before .before .before .before .before
 
-abbrev kept : Told → Kept
-kept o = o .before .before .before .before .before .before .before
+abbrev told-at : TripleDone → Told
+told-at c = c .before .before
 
--- the first and the second bit of the triple
+abbrev triple-done : Kept → TripleDone
+triple-done e = e .before .before .before .before .before .before
+
+-- the three bits of the triple
 abbrev first-bit : Told → ℕ
-first-bit o = o .before .before .before .mark-of2 .result
+first-bit o = o .mark-of2 .result
 
 abbrev second-bit : Told → ℕ
-second-bit o = o .before .before .before .before .before .mark-of .result
+second-bit o = o .before .before .mark-of .result
+
+abbrev third-bit : Told → ℕ
+third-bit o = o .before .before .before .before .one-if .result
 
 -- the labels that were lent
 abbrev labelsAt : Between → List ℕ
@@ -107,36 +116,40 @@ turn i =
 
 -- the marks beside the label, as they are read when it is marked
 marked : (o : Told)
-    → let i = indexed (clear (kept o)) in
+    → let i = indexed (new o) in
     let label = getD (labelsAt (between i)) (between i .loop .k + 1) 0 in
     let seen = withLabel (between i .loop .seen) label in
     (first-bit o ≡ markOf seen (label + 1)) × (second-bit o ≡ markOf seen (label - 1))
 marked o =
-    let e = kept o in
-    let at = indexed (clear e) .index .ensures .0 in
+    let e = new o in
+    let at = indexed e .index .ensures .0 in
     let seen = e .before .mark2 .ensures .1 in (
-      o .before .before .before .mark-of2 .ensures .0 ∙ (λ j. markOf (seen j) (at j + 1)),
-      o .before .before .before .before .before .mark-of .ensures .0 ∙ (λ j. markOf (seen j) (at j - 1)),
+      o .mark-of2 .ensures .0 ∙ (λ j. markOf (seen j) (at j + 1)),
+      o .before .before .mark-of .ensures .0 ∙ (λ j. markOf (seen j) (at j - 1)),
     )
 
--- the label is taken
-taken : (o : Told)
-    → let l = between (indexed (clear (kept o))) in
-    Taken (labelsAt l) (l .loop .k) (l .loop .seen) (l .loop .below) (l .loop .above) (l .loop .runs-below) (l .loop .runs-above)
-    (l .loop .last .0) (l .loop .«record») (getD (labelsAt l) (l .loop .k + 1) 0) (first-bit o) (second-bit o) (o .one-if .result)
-taken o =
-    let e = kept o in
-    turn (indexed (clear e)) .take (told-not (clear e .if1 .left) (clear e .before .past-runs .ensures))
-    (told-not (e .if2 .left) (e .before .mark2 .ensures .0)) (first-bit o) (second-bit o) (o .one-if .result) (marked o .0) (marked o .1)
-    (o .one-if .ensures .0)
+-- the triple is a number from 0 to 7
+small : (o : Told) → (first-bit o ≤ 1) × (second-bit o ≤ 1) × (third-bit o ≤ 1)
+small o = (o .mark-of2 .ensures .1, o .before .before .mark-of .ensures .1, o .before .before .before .before .one-if .ensures .1)
 
--- the triple of the next position is set
+-- it is set at the next position
 triple-set : (c : TripleDone)
-    → let o = c .before .before .before .before in
-    let l = between (indexed (clear (kept o))) in
-    TripleSet (l .loop .«record») (c .set-triple .last .0) (l .loop .k + 2)
-    (tripleOf (4 * first-bit o + 2 * second-bit o + o .one-if .result))
+    → let o = told-at c in
+    let l = between (indexed (new o)) in
+    TripleSet (l .loop .«record») (c .set-triple .last .0) (l .loop .k + 2) (tripleOf (4 * first-bit o + 2 * second-bit o + third-bit o))
 triple-set c = c .set-triple .ensures
+
+-- the label is taken
+taken : (e : Kept)
+    → let o = told-at (triple-done e) in
+    let l = between (indexed (new o)) in
+    Taken (labelsAt l) (l .loop .k) (l .loop .seen) (l .loop .below) (l .loop .above) (l .loop .runs-below) (l .loop .runs-above)
+    (l .loop .last .0) (l .loop .«record») (getD (labelsAt l) (l .loop .k + 1) 0) (first-bit o) (second-bit o) (third-bit o)
+taken e =
+    let o = told-at (triple-done e) in
+    turn (indexed (new o)) .take (told-not (e .if2 .left) (e .before .past-runs .ensures))
+    (told-not (new o .if1 .left) (new o .before .mark2 .ensures .0)) (first-bit o) (second-bit o) (third-bit o) (marked o .0) (marked o .1)
+    (o .before .before .before .before .one-if .ensures .0)
 
 -- the record slice keeps its length
 as-long : (l : Between) → length (l .loop .«record») ≡ length (l .before .before .before .before .before .before .args .«record» .now)
@@ -174,65 +187,29 @@ shared-slice-read-set-triple c = search needs
 index-requires : tie.Need-index-requires Inv-loop μ-loop
 index-requires c κs = search needs
 
-array-copy-out-next-below : tie.Need-array-copy-out-next-below Inv-loop μ-loop
-array-copy-out-next-below c = omega (arith, turn c .room-below)
-
-array-copy-out-next-above : tie.Need-array-copy-out-next-above Inv-loop μ-loop
-array-copy-out-next-above c = omega (arith, turn (c .before) .room-above)
-
-past-runs-requires : tie.Need-past-runs-requires Inv-loop μ-loop
-past-runs-requires c κs = search needs
+mark-requires-2 : tie.Need-mark-requires-2 Inv-loop μ-loop
+mark-requires-2 c κs = turn (c .before) .seen-long
 
 same-length : tie.Need-same-length Inv-loop μ-loop
-same-length c = as-long (between (c .before .before .before .before))
+same-length c = as-long (between (c .before .before .before))
 
 returns : tie.Need-returns Inv-loop μ-loop
-returns c = turn (c .before .before .before .before) .away-past (told (c .if1 .taken) (c .before .past-runs .ensures))
+returns c = turn (c .before .before .before) .away-seen (told (c .if1 .taken) (c .before .mark2 .ensures .0))
 
-add-below : tie.Need-add-below Inv-loop μ-loop
-add-below c = search needs
-
-array-set-from-below : tie.Need-array-set-from-below Inv-loop μ-loop
-array-set-from-below c = turn (indexed c) .room-below
-
-add-above : tie.Need-add-above Inv-loop μ-loop
-add-above c = search needs
-
-array-set-from-above : tie.Need-array-set-from-above Inv-loop μ-loop
-array-set-from-above c = turn (indexed c) .room-above
-
-mark-requires-2 : tie.Need-mark-requires-2 Inv-loop μ-loop
-mark-requires-2 c κs = turn (indexed (c .before)) .seen-long
-
-same-length-2 : tie.Need-same-length-2 Inv-loop μ-loop
-same-length-2 c = as-long (between (indexed (c .before .before .before)))
-
-returns-2 : tie.Need-returns-2 Inv-loop μ-loop
-returns-2 c = turn (indexed (c .before .before .before)) .away-seen (told (c .if2 .taken) (c .before .mark2 .ensures .0))
+one-if-requires : tie.Need-one-if-requires Inv-loop μ-loop
+one-if-requires c κs = search needs
 
 sub-mark-of : tie.Need-sub-mark-of Inv-loop μ-loop
-sub-mark-of c = let i = indexed (clear (c .before)) in omega (arith, i .index .ensures, turn i .low)
+sub-mark-of c = let i = indexed (c .before .before .before .before) in omega (arith, i .index .ensures, turn i .low)
 
 mark-of-requires : tie.Need-mark-of-requires Inv-loop μ-loop
-mark-of-requires c κs = let i = indexed (clear (c .before)) in omega (arith, i .index .ensures)
+mark-of-requires c κs = let i = indexed (c .before .before .before .before) in omega (arith, i .index .ensures)
 
 add-mark-of : tie.Need-add-mark-of Inv-loop μ-loop
 add-mark-of c = search needs
 
 mark-of-requires-2 : tie.Need-mark-of-requires-2 Inv-loop μ-loop
-mark-of-requires-2 c κs = let i = indexed (clear (c .before .before .before)) in omega (arith, i .index .ensures)
-
-one-if-requires : tie.Need-one-if-requires Inv-loop μ-loop
-one-if-requires c κs = search needs
-
-runs-after-requires : tie.Need-runs-after-requires Inv-loop μ-loop
-runs-after-requires c κs = (taken c .enough-below, omega (arith, turn (indexed (clear (kept c))) .room-below))
-
-sub-runs-after : tie.Need-sub-runs-after Inv-loop μ-loop
-sub-runs-after c = search needs
-
-runs-after-requires-2 : tie.Need-runs-after-requires-2 Inv-loop μ-loop
-runs-after-requires-2 c κs = (taken (c .before) .enough-above, omega (arith, turn (indexed (clear (kept (c .before)))) .room-above))
+mark-of-requires-2 c κs = let i = indexed (c .before .before .before .before .before .before) in omega (arith, i .index .ensures)
 
 mul-triple : tie.Need-mul-triple Inv-loop μ-loop
 mul-triple c = search needs
@@ -254,17 +231,60 @@ cast-set-triple c = search needs
 
 set-triple-requires : tie.Need-set-triple-requires Inv-loop μ-loop
 set-triple-requires c κs =
-    let o = c .before .before .before in
-    let i = indexed (clear (kept o)) in
+    let i = indexed (new (c .before)) in
     let l = between i in
-    let room = l .loop .inv .partly .long in (
+    let room = l .loop .inv .partly .long in
+    let next : l .loop .k + 2 - 2 ≡ l .loop .k = omega arith in (
       (omega arith, omega (arith, room, l .before .before .before .before .before .before .pre .0 .1, i .before .before .loop-test .taken), omega (arith, room)),
-      omega (arith, o .one-if .ensures .1, o .before .before .before .mark-of2 .ensures .1, o .before .before .before .before .before .mark-of .ensures .1),
+      (omega (arith, small (c .before)), ap (groupAt (bodyOf (l .loop .«record»))) next ∙ next-none (l .loop .inv .partly)),
     )
+
+array-copy-out-next-below : tie.Need-array-copy-out-next-below Inv-loop μ-loop
+array-copy-out-next-below c = omega (arith, turn (indexed (new (told-at (c .before .before)))) .room-below)
+
+array-copy-out-next-above : tie.Need-array-copy-out-next-above Inv-loop μ-loop
+array-copy-out-next-above c = omega (arith, turn (indexed (new (told-at (c .before .before .before)))) .room-above)
+
+past-runs-requires : tie.Need-past-runs-requires Inv-loop μ-loop
+past-runs-requires c κs = search needs
+
+same-length-2 : tie.Need-same-length-2 Inv-loop μ-loop
+same-length-2 c =
+    let t = c .before .before .before .before .before .before in
+    triple-set t .long ∙ as-long (between (indexed (new (told-at t))))
+
+returns-2 : tie.Need-returns-2 Inv-loop μ-loop
+returns-2 c =
+    turn (indexed (new (told-at (c .before .before .before .before .before .before)))) .away-past
+    (told (c .if2 .taken) (c .before .past-runs .ensures))
+
+add-below : tie.Need-add-below Inv-loop μ-loop
+add-below c = search needs
+
+array-set-from-below : tie.Need-array-set-from-below Inv-loop μ-loop
+array-set-from-below c = turn (indexed (new (told-at (triple-done c)))) .room-below
+
+add-above : tie.Need-add-above Inv-loop μ-loop
+add-above c = search needs
+
+array-set-from-above : tie.Need-array-set-from-above Inv-loop μ-loop
+array-set-from-above c = turn (indexed (new (told-at (triple-done c)))) .room-above
+
+sub-runs-after : tie.Need-sub-runs-after Inv-loop μ-loop
+sub-runs-after c = omega (arith, small (told-at (triple-done c)))
+
+runs-after-requires : tie.Need-runs-after-requires Inv-loop μ-loop
+runs-after-requires c κs =
+    (taken c .enough-below, omega (arith, turn (indexed (new (told-at (triple-done c)))) .room-below), omega arith)
+
+runs-after-requires-2 : tie.Need-runs-after-requires-2 Inv-loop μ-loop
+runs-after-requires-2 c κs =
+    let o = told-at (triple-done (c .before)) in
+    (taken (c .before) .enough-above, omega (arith, turn (indexed (new o)) .room-above), small o .2)
 
 add-k : tie.Need-add-k Inv-loop μ-loop
 add-k c =
-    let i = indexed (clear (kept (c .before .before .before .before .before .before))) in
+    let i = indexed (new (told-at (triple-done (c .before .before)))) in
     record { fits = omega (arith, i .before .before .loop-test .taken, between i .before .before .before .before .before .before .pre .0 .1) }
 
 loop-less : tie.Need-loop-less Inv-loop μ-loop
@@ -272,12 +292,11 @@ loop-less c = search needs
 
 loop-again : tie.Need-loop-again Inv-loop μ-loop
 loop-again c =
-    let set = c .before .before in
-    let o = set .before .before .before .before in
-    let e = kept o in
-    rw (e .before .mark2 .ensures .1)
-    (taken o .after (set .before .before .before .runs-after .result) (set .before .before .runs-after2 .result) (set .set-triple .last .0)
-    (set .before .before .before .runs-after .ensures) (set .before .before .runs-after2 .ensures) (triple-set set))
+    let e = c .before .before in
+    let t = triple-done e in
+    rw (new (told-at t) .before .mark2 .ensures .1)
+    (taken e .after (c .before .runs-after .result) (c .runs-after2 .result) (t .set-triple .last .0) (c .before .runs-after .ensures)
+    (c .runs-after2 .ensures) (triple-set t))
 
 same-length-3 : tie.Need-same-length-3 Inv-loop μ-loop
 same-length-3 c = as-long (c .before)
@@ -304,26 +323,14 @@ encode-spec =
     add-set-triple
     shared-slice-read-set-triple
     index-requires
-    array-copy-out-next-below
-    array-copy-out-next-above
-    past-runs-requires
+    mark-requires-2
     same-length
     returns
-    add-below
-    array-set-from-below
-    add-above
-    array-set-from-above
-    mark-requires-2
-    same-length-2
-    returns-2
+    one-if-requires
     sub-mark-of
     mark-of-requires
     add-mark-of
     mark-of-requires-2
-    one-if-requires
-    runs-after-requires
-    sub-runs-after
-    runs-after-requires-2
     mul-triple
     mul-triple-2
     add-triple
@@ -331,6 +338,18 @@ encode-spec =
     add-set-triple-2
     cast-set-triple
     set-triple-requires
+    array-copy-out-next-below
+    array-copy-out-next-above
+    past-runs-requires
+    same-length-2
+    returns-2
+    add-below
+    array-set-from-below
+    add-above
+    array-set-from-above
+    sub-runs-after
+    runs-after-requires
+    runs-after-requires-2
     add-k
     loop-less
     loop-again
