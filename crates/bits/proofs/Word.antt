@@ -2,18 +2,18 @@
 -- the bytes that are in use are the word's quotient and remainder by 256; a store of these two changes no other bit.
 use mathlib.Core.List.{List}
 use mathlib.Core.Logic.{_≢_, inl, inr}
-use mathlib.Core.Path.{_≡_, sym, ap, subst, subst₂, _∙_}
+use mathlib.Core.Path.{_≡_, ap, _∙_}
 use Prim.Native.Nat.{ℕ, _+_, _-_, _*_, _/_, _%_, _≤_, _<_}
 use native.Mathlib.Omega.{arith}
 use borrow.Author.Tests.{lt-ltb, le-ltb}
-use lib.Bits.{bitAnd, bitOr, bitXor, and-le-r, and-mask, or-shifted, xor-lt, xor-mod, xor-shr}
+use lib.Bits.{bitAnd, bitOr, and-le-r, and-mask, or-shifted}
 use lib.Dec.{eqb}
 use lib.ListN.{length, getD, set, length-set}
 use lib.Seq.{getD-set-same, getD-set-other}
 use Rattle.finite.specs.Decide.{le-or-lt, eq-or-ne}
 use Rattle.bits.specs.Bit.{bitIn, bitAt, Bytes}
 use Rattle.bits.specs.Pack.{bitAt-byte}
-use Rattle.bits.specs.Word.{bitOfWord, reach, Shows, Stored, TurnedOver}
+use Rattle.bits.specs.Word.{bitOfWord, reach, Shows, Stored}
 use Rattle.bits.proofs.Digit.{digit-of-quotient, digit-of-remainder}
 
 -- ---- the bits in use
@@ -115,36 +115,3 @@ module _ (xs : List ℕ) (at lowest word : ℕ) (word-fits : word < 65536) where
 
       fits-after : at + 1 < length once
       fits-after = rw length-set fits
-
--- ---- the bits of a word are turned over
-module _ (xs : List ℕ) (at lowest word high : ℕ) (word-fits : word < 65536) (is-high : getD xs at 0 ≡ high) (high-fits : high < 256) where
-  pub turned-one : at < length xs → 8 ≤ lowest → TurnedOver xs (set xs at (bitXor high (word / 256))) at lowest word
-  turned-one fits l = record {
-    shown = high * 256;
-    shows = shows xs at lowest (high * 256) (omega arith) (λ g. absurd (omega arith));
-    stored = subst (λ (byte : ℕ). Stored xs (set xs at byte) at lowest (bitXor (high * 256) word)) upper
-        (stored-one xs at lowest (bitXor (high * 256) word) (xor-lt 16 (high * 256) word (omega arith) word-fits) fits l);
-  }
-    where
-      upper : bitXor (high * 256) word / 256 ≡ bitXor high (word / 256)
-      upper = let e : high * 256 / 256 ≡ high = omega arith in xor-shr (high * 256) word 8 ∙ ap (λ (n : ℕ). bitXor n (word / 256)) e
-
-  pub turned-two : (low : ℕ) → getD xs (at + 1) 0 ≡ low → low < 256 → at + 1 < length xs → lowest < 8
-      → TurnedOver xs (set (set xs at (bitXor high (word / 256))) (at + 1) (bitXor low (bitAnd word 255))) at lowest word
-  turned-two low is-low low-fits fits l = record {
-    shown = both;
-    shows = shows xs at lowest both (omega arith) (λ g. omega arith);
-    stored = subst₂ (λ (first second : ℕ). Stored xs (set (set xs at first) (at + 1) second) at lowest (bitXor both word)) upper lower
-        (stored-two xs at lowest (bitXor both word) (xor-lt 16 both word (omega arith) word-fits) fits l);
-  }
-    where
-      both : ℕ
-      both = high * 256 + low
-
-      upper : bitXor both word / 256 ≡ bitXor high (word / 256)
-      upper = let e : both / 256 ≡ high = omega arith in xor-shr both word 8 ∙ ap (λ (n : ℕ). bitXor n (word / 256)) e
-
-      lower : bitAnd (bitXor both word) 255 ≡ bitXor low (bitAnd word 255)
-      lower =
-          let e : both % 256 ≡ low = omega arith in
-          and-mask (bitXor both word) 8 ∙ xor-mod both word 8 ∙ (λ i. bitXor (e i) (sym (and-mask word 8) i))

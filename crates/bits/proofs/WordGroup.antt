@@ -1,17 +1,16 @@
 -- Group k of a list that shows a word, read and set. The group's first bit is bit 3k % 8 of the word, so the group is three digits of the word,
--- the lowest of them at 13 - 3k % 8; what the group differs by, turned over there, sets the group, and each other bit of the word is as it was.
+-- the lowest of them at 13 - 3k % 8; a number put there sets the group, and each other bit of the word is as it was.
 use mathlib.Core.List.{List}
 use mathlib.Core.Logic.{_≢_, _⊎_, inl, inr}
 use mathlib.Core.Path.{_≡_, refl, sym, ap, _∙_}
 use Prim.Native.Nat.{ℕ, zero, suc, _+_, _-_, _*_, _/_, _%_, _^_, _≤_, _<_}
 use native.Mathlib.Omega.{arith}
-use lib.Bits.{bitXor, xor-lt}
 use lib.Dec.{eqb}
 use Rattle.finite.specs.Decide.{le-or-lt}
 use Rattle.bits.specs.Bit.{bit, bitAt, groupAt, GroupSet}
 use Rattle.bits.specs.Word.{bitOfWord, reach, Shows, Stored}
 use Rattle.bits.proofs.Digit.{digit, three-digits}
-use Rattle.bits.proofs.Put.{put, put-here, put-other, xor-twice}
+use Rattle.bits.proofs.Put.{put, put-here, put-other}
 use Rattle.bits.proofs.Word.{in-reach, reach-small}
 
 -- the byte in which group k starts, and the place of its lowest digit in a word from that byte on
@@ -42,34 +41,24 @@ module _ (xs : List ℕ) (k word : ℕ) (seen : Shows xs (at k) (lowest k) word)
       let third = bit-shown (3 * k + 2) (lowest k) (omega arith) (omega arith) (omega arith) in
       rw (first, second, third) (sym (three-digits word (lowest k)))
 
-put-bit : (k word v i : ℕ) → v < 8 → i < 16 → (i < 3 * k % 8) ⊎ (3 * k % 8 + 3 ≤ i)
+put-bit : (k word v i : ℕ) → word < 65536 → v < 8 → i < 16 → (i < 3 * k % 8) ⊎ (3 * k % 8 + 3 ≤ i)
     → bitOfWord (put word (lowest k) v) i ≡ bitOfWord word i
 unfolding bitOfWord
-put-bit k word v i small h out =
+put-bit k word v i fits small h out =
     ap (λ (n : ℕ). eqb n 1)
-    (put-other (lowest k) v (omega arith) small word (15 - i) (elim out [ inl l ↦ inr (omega arith) | inr l ↦ inl (omega arith) ]))
+    (put-other (lowest k) v (omega arith) small word fits (15 - i) (elim out [ inl l ↦ inr (omega arith) | inr l ↦ inl (omega arith) ]))
 
-pub group-set : (xs ys : List ℕ) (k word from to : ℕ) → groupAt xs k ≡ from → to < 8 → Shows xs (at k) (lowest k) word
-    → Stored xs ys (at k) (lowest k) (put word (lowest k) (bitXor from to)) → GroupSet xs ys k to
-group-set xs ys k word from to is small seen st = record {
-  group-is = group-shown ys k (put word (lowest k) (bitXor from to)) (st .shows) ∙ put-here (lowest k) (bitXor from to) (omega arith) turned word
-      ∙ ap (λ (group : ℕ). bitXor group (bitXor from to)) was ∙ xor-twice from to from-small small;
+group-set : (xs ys : List ℕ) (k word v : ℕ) → word < 65536 → v < 8 → Shows xs (at k) (lowest k) word
+    → Stored xs ys (at k) (lowest k) (put word (lowest k) v) → GroupSet xs ys k v
+group-set xs ys k word v fits small seen st = record {
+  group-is = group-shown ys k (put word (lowest k) v) (st .shows) ∙ put-here (lowest k) v (omega arith) small word;
   others = other;
   long = st .long;
   bytes = st .bytes;
 }
   where
-    was : word / 2 ^ lowest k % 8 ≡ from
-    was = sym (group-shown xs k word seen) ∙ is
-
-    from-small : from < 8
-    from-small = omega (arith, was)
-
-    turned : bitXor from to < 8
-    turned = xor-lt 3 from to from-small small
-
     same : (i : ℕ) → i < reach (lowest k) → (i < 3 * k % 8) ⊎ (3 * k % 8 + 3 ≤ i) → bitAt ys (8 * at k + i) ≡ bitAt xs (8 * at k + i)
-    same i h out = st .shows i h ∙ put-bit k word (bitXor from to) i turned (omega (arith, reach-small (lowest k))) out ∙ sym (seen i h)
+    same i h out = st .shows i h ∙ put-bit k word v i fits small (omega (arith, reach-small (lowest k))) out ∙ sym (seen i h)
 
     other : (i : ℕ) → i / 3 ≢ k → bitAt ys i ≡ bitAt xs i
     other i ne = elim (le-or-lt (8 * at k) i) [
@@ -81,3 +70,11 @@ group-set xs ys k word from to is small seen st = record {
             rw e (same (i - 8 * at k) (omega arith) (elim (le-or-lt (3 * k) i) [ inl m ↦ inr (omega arith) | inr m ↦ inl (omega arith) ]))
       ]
     ]
+
+-- the same for group i of the eight from group 8m on, which start at byte 3m
+pub group-of-eight-set : (xs ys : List ℕ) (m i word v : ℕ) → word < 65536 → v < 8 → Shows xs (3 * m + at i) (lowest i) word
+    → Stored xs ys (3 * m + at i) (lowest i) (put word (lowest i) v) → GroupSet xs ys (8 * m + i) v
+group-of-eight-set xs ys m i word v fits small seen st =
+    let place : 3 * m + at i ≡ at (8 * m + i) = omega arith in
+    let digits : lowest i ≡ lowest (8 * m + i) = omega arith in
+    group-set xs ys (8 * m + i) word v fits small (rw (place, digits) at seen) (rw (place, digits) at st)

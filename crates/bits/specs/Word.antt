@@ -1,10 +1,9 @@
--- A word of 16 bits over one byte of a list, or over two: what the private functions that load a word and turn over its bits promise.
+-- A word of 16 bits over one byte of a list, or over two: what the private functions that load and store a word promise.
 use mathlib.Core.Bool.{Bool, cond}
 use mathlib.Core.List.{List}
 use mathlib.Core.Logic.{_⊎_}
 use mathlib.Core.Path.{_≡_}
 use Prim.Native.Nat.{ℕ, _+_, _-_, _*_, _/_, _%_, _^_, _≤_, _<_}
-use lib.Bits.{bitXor}
 use lib.Dec.{eqb, ltb}
 use lib.ListN.{length}
 use Rattle.bits.specs.Bit.{bitAt, Bytes}
@@ -28,10 +27,3 @@ pub record Stored (before after : List ℕ) (at lowest word : ℕ) : Type 0 wher
   pub others : (i : ℕ) → (i < 8 * at) ⊎ (8 * at + reach lowest ≤ i) → bitAt after i ≡ bitAt before i
   pub long : length after ≡ length before
   pub bytes : Bytes before → Bytes after
-
--- the list after the bits that are set in a word were turned over from byte `at` on, as far as they are in use: it shows the xor of the word
--- and what it showed before
-pub record TurnedOver (before after : List ℕ) (at lowest word : ℕ) : Type 0 where
-  pub shown : ℕ
-  pub shows : Shows before at lowest shown
-  pub stored : Stored before after at lowest (bitXor shown word)

@@ -1,10 +1,10 @@
 // Groups of three bits in a slice of bytes, the highest bit of a byte first: one group read, and one group set; or eight groups read.
-// A group lies in one byte or crosses into the next. Either way it is shifted in a word of 16 bits.
+// A group lies in one byte or crosses into the next. Either way it is shifted and masked in a word of 16 bits.
 ghost use mathlib.Core.Path.{_≡_};
 ghost use Prim.Native.Nat.{_+_, _*_, _<_, _≤_};
 ghost use lib.ListN.{length};
 ghost use Rattle.bits.specs.Bit.{groupAt, GroupSet};
-ghost use Rattle.bits.specs.Word.{Shows, TurnedOver};
+ghost use Rattle.bits.specs.Word.{Shows, Stored};
 ghost use Rattle.bits.specs.Eight.{groupOfWord, EightGroups};
 
 // A byte as a word.
@@ -26,15 +26,14 @@ fn load(bytes: &[u8], at: usize, lowest: usize) -> u16
     high
 }
 
-// Turns over the bits that are set in a word: those of its high byte in byte `at` and, where the bit worth 2 ^ lowest lies below that,
-// those of its low byte in the next one.
-fn turn_over(bytes: &mut [u8], at: usize, lowest: usize, word: u16)
+// Stores the word's high byte at `at` and, where the bit worth 2 ^ lowest lies below it, its low byte in the next one.
+fn store(bytes: &mut [u8], at: usize, lowest: usize, word: u16)
     requires { ⌜ (at < length (now bytes)) × (lowest < 8 → at + 1 < length (now bytes)) ⌝ }
-    ensures { λ _. ⌜ TurnedOver (now (bytes .entry)) (now (bytes .exit)) at lowest word ⌝ }
+    ensures { λ _. ⌜ Stored (now (bytes .entry)) (now (bytes .exit)) at lowest word ⌝ }
 {
-    bytes[at] = (wide(bytes[at]) ^ (word >> 8)) as u8;
+    bytes[at] = (word >> 8) as u8;
     if lowest < 8 {
-        bytes[at + 1] = (wide(bytes[at + 1]) ^ (word & 255)) as u8;
+        bytes[at + 1] = (word & 255) as u8;
     }
 }
 
@@ -48,17 +47,16 @@ pub fn group(bytes: &[u8], k: usize) -> u8
     ((load(bytes, at, down) >> down) & 7) as u8
 }
 
-// Sets group k from the number that it is to another one, both from 0 to 7: the bits in which the two differ are turned over. So the
-// group is not read first, nor cleared.
-pub fn set_group(bytes: &mut [u8], k: usize, from: u8, to: u8)
-    requires { ⌜ (3 * k + 3 ≤ 8 * length (now bytes)) × (length (now bytes) ≤ 65535) × (to < 8) ⌝ }
-    requires { ⌜ groupAt (now bytes) k ≡ from ⌝ }
-    ensures { λ _. ⌜ GroupSet (now (bytes .entry)) (now (bytes .exit)) k to ⌝ }
+// Sets group i of the eight from group 8m on to a number from 0 to 7. Eight groups fill three bytes, so i alone tells the shift and the
+// mask: where a loop over i is written out by the compiler, they are constants.
+pub fn set_group(bytes: &mut [u8], m: usize, i: usize, value: u8)
+    requires { ⌜ (3 * (8 * m + i) + 3 ≤ 8 * length (now bytes)) × (length (now bytes) ≤ 65535) × (i < 8) × (value < 8) ⌝ }
+    ensures { λ _. ⌜ GroupSet (now (bytes .entry)) (now (bytes .exit)) (8 * m + i) value ⌝ }
 {
-    let at = 3 * k / 8;
-    let up = 13 - 3 * k % 8;
-    let differs = wide(from) ^ wide(to);
-    turn_over(bytes, at, up, differs << up);
+    let at = 3 * m + 3 * i / 8;
+    let up = 13 - 3 * i % 8;
+    let kept = load(bytes, at, up) & !(7 << up);
+    store(bytes, at, up, kept | (wide(value) << up));
 }
 
 // A byte as a number of 32 bits.

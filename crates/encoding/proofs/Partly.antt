@@ -3,13 +3,13 @@ use mathlib.Core.Bool.{false}
 use mathlib.Core.List.{List, [], _∷_}
 use mathlib.Core.Logic.{inl, inr}
 use mathlib.Core.Path.{_≡_, refl, sym, ap, subst, _∙_}
-use Prim.Native.Nat.{ℕ, zero, suc, _+_, _-_, _*_, _≤_}
+use Prim.Native.Nat.{ℕ, zero, suc, _-_, _*_, _≤_}
 use native.Mathlib.Omega.{arith}
 use native.Mathlib.Numerals.{one-add}
 use lib.ListN.{length, take, replicate, length-replicate}
 use Rattle.finite.specs.BitTable.{zeros-at}
 use Rattle.finite.specs.Decide.{eq-or-ne}
-use Rattle.bits.specs.Bit.{bitAt, groupAt, Bytes, pack}
+use Rattle.bits.specs.Bit.{bitAt, Bytes, pack}
 use Rattle.bits.specs.Pack.{take-pack, bitAt-zeros}
 use Rattle.record.specs.Labels.{labelAt}
 use Rattle.record.specs.Triple.{Triple, tripleAt}
@@ -41,11 +41,6 @@ partly-none triples n few = record {
     bytes : Bytes (n ∷ replicate 96 0)
     bytes zero = omega arith
     bytes (suc i) = omega (arith, zeros-at 96 i)
-
--- the next triple is still 000
-pub next-none : {triples : ℕ → Triple} {n k : ℕ} {written : List ℕ} → Partly triples n k written → groupAt (bodyOf written) k ≡ 0
-unfolding groupAt
-next-none {k = k} p = rw (p .rest (3 * k) (omega arith), p .rest (3 * k + 1) (omega arith), p .rest (3 * k + 2) (omega arith))
 
 -- one more triple
 pub partly-more : (triples : ℕ → Triple) (n k : ℕ) (before after : List ℕ) → Partly triples n k before

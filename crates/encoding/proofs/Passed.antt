@@ -53,6 +53,12 @@ pub record Passed (labels : List ℕ) (k : ℕ) (seen : List ℕ) (below above :
   pub seen-is : seen ≡ seenOf labels (suc k)
   pub partly : Partly (tripleAt (labelAt labels)) (length labels) k written
 
+-- the same count, told as another sum
+pub passed-as : {labels : List ℕ} {k j : ℕ} {seen : List ℕ} {below above : List Label} {p q last : ℕ} {written : List ℕ}
+    → Passed labels k seen below above p q last written → k ≡ j → Passed labels j seen below above p q last written
+passed-as {labels} {k} {j} {seen} {below} {above} {p} {q} {last} {written} s e =
+    subst (λ (i : ℕ). Passed labels i seen below above p q last written) e s
+
 -- ---- a step's counts
 toward : (turn way : Way) → ℕ
 toward up up = 1
@@ -264,11 +270,11 @@ module _ {labels : List ℕ} {k : ℕ} {seen : List ℕ} {below above : List Lab
         above-size = omega (arith, height up, toward-up t, s .count-above, bit-le (falls t))
 
 -- ---- the start and the end
-pub passed-first : (labels before : List ℕ) → 1 ≤ length labels → length labels ≤ 255 → ¬ LabelOutside labels → before ≡ replicate 97 0
+pub passed-first : (labels before : List ℕ) → 1 ≤ length labels → length labels ≤ 255 → before ≡ replicate 97 0
     → Passed labels 0 (withLabel (replicate 32 0) (labelAt labels 1)) (replicate 255 (record { 0 = 0 })) (replicate 255 (record { 0 = 255 }))
     0 0 (labelAt labels 1) (set before 0 (length labels))
 unfolding runsOf stackOf seenAfter
-passed-first labels before some few inside e = record {
+passed-first labels before some few e = record {
   within = some;
   last-is = refl;
   stage = stage-first (labelAt labels) (runsOf (labelAt labels) 0) (λ way. refl) (λ way. refl);
@@ -288,10 +294,10 @@ passed-first labels before some few inside e = record {
       (partly-none (tripleAt (labelAt labels)) (length labels) few);
 }
 
-pub passed-all : (labels : List ℕ) (k : ℕ) (seen : List ℕ) (below above : List Label) (p q last : ℕ) (written : List ℕ)
+pub passed-all : {labels : List ℕ} {k : ℕ} {seen : List ℕ} {below above : List Label} {p q last : ℕ} {written : List ℕ}
     → Passed labels k seen below above p q last written → length labels ≡ suc k
     → length labels ≤ 255 → ¬ LabelOutside labels → Encoded true labels written
-passed-all labels k seen below above p q last written s e few inside = (baxter, s .partly .long, front)
+passed-all {labels} {k} {written = written} s e few inside = (baxter, s .partly .long, front)
   where
     each : EachOnce (labelAt labels) (length labels)
     each = each-once labels inside single

@@ -1,8 +1,7 @@
--- `set_group` meets its contract. `turn_over` ensures that the list shows the old word before and the new one then;
--- the law of a number turned over in a word by a shift and an xor says how the two differ.
-use mathlib.Core.Path.{sym, _∙_}
+-- `set_group` meets its contract. `load` ensures that the list shows the old word and `store` that it shows the new one;
+-- the law of a number put into a word by a mask and a shift says how the two differ.
 use native.Mathlib.Omega.{arith}
-use Rattle.bits.proofs.WordGroup.{group-set}
+use Rattle.bits.proofs.WordGroup.{group-of-eight-set}
 use borrow.Author.Needs.{needs}
 use Rattle.bits.proofs.set_group.Statement.{statement}
 use Rattle.bits.proofs.set_group.Tie as tie
@@ -10,51 +9,67 @@ use Rattle.bits.proofs.set_group.Tie as tie
 mul-at : tie.Need-mul-at
 mul-at c = search needs
 
+mul-at-2 : tie.Need-mul-at-2
+mul-at-2 c = search needs
+
+add-at : tie.Need-add-at
+add-at c = search needs
+
 mul-up : tie.Need-mul-up
 mul-up c = search needs
 
 sub-up : tie.Need-sub-up
 sub-up c = search needs
 
+load-requires : tie.Need-load-requires
+load-requires c κs = search needs
+
+cast-kept : tie.Need-cast-kept
+cast-kept c = search needs
+
+shl-kept : tie.Need-shl-kept
+shl-kept c = search needs
+
 wide-requires : tie.Need-wide-requires
 wide-requires c κs = search needs
 
-wide-requires-2 : tie.Need-wide-requires-2
-wide-requires-2 c κs = search needs
+cast-store : tie.Need-cast-store
+cast-store c = search needs
 
-cast-turn-over : tie.Need-cast-turn-over
-cast-turn-over c = search needs
+shl-store : tie.Need-shl-store
+shl-store c = search needs
 
-shl-turn-over : tie.Need-shl-turn-over
-shl-turn-over c = search needs
-
-turn-over-requires : tie.Need-turn-over-requires
-turn-over-requires c κs = search needs
+store-requires : tie.Need-store-requires
+store-requires c κs = search needs
 
 same-length : tie.Need-same-length
 same-length c = search needs
 
 returns : tie.Need-returns
 returns c =
-    let turned = c .before .before .turn-over in
-    let to = c .before .before .before .before .wide2 in
-    let from = c .before .before .before .before .before .wide in
-    let s = c .before .before .before .before .before .before .before in
-    rw (← to .ensures .0)
-    (group-set (s .args .bytes .now) (turned .last .0) (s .args .k) (turned .ensures .shown) (from .result) (to .result)
-    (s .pre .1 ∙ sym (from .ensures .0)) (omega (arith, to .ensures .0, s .pre .0)) (turned .ensures .shows) (turned .ensures .stored))
+    let stored = c .before .before in
+    let widened = stored .before .wide in
+    let loaded = stored .before .before .before .load in
+    let a = stored .before .before .before .before .before .before .args in
+    rw (← widened .ensures .0)
+    (group-of-eight-set (a .bytes .now) (stored .store .last .0) (a .m) (a .i) (loaded .result) (widened .result) (omega arith) (omega arith)
+    (loaded .ensures) (stored .store .ensures))
 
 pub set-group-spec : {M : Type 1} → statement M
 set-group-spec =
     tie.close
     (tie.spec
     mul-at
+    mul-at-2
+    add-at
     mul-up
     sub-up
+    load-requires
+    cast-kept
+    shl-kept
     wide-requires
-    wide-requires-2
-    cast-turn-over
-    shl-turn-over
-    turn-over-requires
+    cast-store
+    shl-store
+    store-requires
     same-length
     returns)

@@ -1,8 +1,8 @@
 -- `encoding::set_triple` meets its contract: a group of the body is set, which is the part of the record behind the kind byte.
-use Prim.Native.Nat.{_-_}
+use Prim.Native.Nat.{_+_, _*_}
 use native.Mathlib.Omega.{arith}
 use borrow.Author.Needs.{needs}
-use Rattle.encoding.proofs.Part.{part-group, part-set}
+use Rattle.encoding.proofs.Part.{part-set}
 use Rattle.encoding.proofs.set_triple.Statement.{statement}
 use Rattle.encoding.proofs.set_triple.Tie as tie
 
@@ -15,13 +15,8 @@ part-set-group-start c = search needs
 part-set-group-end : tie.Need-part-set-group-end
 part-set-group-end c = search needs
 
-sub-set-group-2 : tie.Need-sub-set-group-2
-sub-set-group-2 c = search needs
-
 set-group-requires : tie.Need-set-group-requires
-set-group-requires c κs =
-    let s = c .before .before in
-    (search needs, part-group (s .args .«record» .now) (s .args .position - 2) (s .args .from) (omega (arith, s .pre .0)) (s .pre .1 .1))
+set-group-requires c κs = search needs
 
 same-length : tie.Need-same-length
 same-length c = search needs
@@ -29,7 +24,7 @@ same-length c = search needs
 returns : tie.Need-returns
 returns c =
     let a = c .before .before .before .before .before .args in
-    part-set (a .«record» .now) (c .before .before .set-group .last .0) (a .position) (a .to) (omega arith) (omega arith)
+    part-set (a .«record» .now) (c .before .before .set-group .last .0) (8 * a .m + a .i) (a .triple) (omega arith)
     (c .before .before .set-group .ensures)
 
 pub set-triple-spec : {M : Type 1} → statement M
@@ -39,7 +34,6 @@ set-triple-spec =
     sub-set-group
     part-set-group-start
     part-set-group-end
-    sub-set-group-2
     set-group-requires
     same-length
     returns)
