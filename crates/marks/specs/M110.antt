@@ -1,18 +1,20 @@
 -- What M-110 asks of the marks: "Prove that after any number of labels a label's bit is 1 exactly if the label is among them."
 use mathlib.Core.List.{List}
 use mathlib.Core.Logic.{_≢_, inl, inr}
-use mathlib.Core.Path.{_≡_, refl, sym, ap, subst, _∙_}
-use Prim.Native.Nat.{ℕ, zero, suc, _*_, _/_, _%_, _^_, _<_, zero-le}
+use mathlib.Core.Path.{_≡_, refl, sym, _∙_}
+use Prim.Native.Nat.{ℕ, zero, suc, _*_, _/_, _%_, _^_, _<_}
 use native.Mathlib.Omega.{arith}
-use lib.Bits.{bitOr, or-lt}
+use native.Mathlib.Numerals.{add-one}
+use lib.Bits.{bitOr, or-lt, or-zero-r}
 use lib.ListN.{length, getD, set, length-set, length-replicate}
 use lib.Pow.{pow-lt}
 use lib.Seq.{getD-set-same, getD-set-other}
 use Rattle.finite.specs.BitTable.{digit-put, digit-kept, digit-none, zeros-at}
 use Rattle.finite.specs.Decide.{eq-or-ne}
-use Rattle.finite.specs.Marks.{Marks, marks-same}
+use Rattle.finite.specs.Marks.{Marks, none-yet, marks-more}
 use Rattle.marks.specs.Seen.{markOf, withLabel, seenAfter, Among}
 
+-- there are always 32 of them
 pub seen-long : (row : ℕ → ℕ) (k : ℕ) → length (seenAfter row k) ≡ 32
 unfolding seenAfter
 seen-long row zero = length-replicate {A = ℕ} 32 0
@@ -38,19 +40,23 @@ module _ (seen : List ℕ) (long : length seen ≡ 32) (label : ℕ) where
 -- after any number of labels a label's bit is 1 exactly if the label is among them; else it is 0
 pub m110-marked-iff-among : (row : ℕ → ℕ) (k label : ℕ) → Marks (markOf (seenAfter row k) label) (Among row k label)
 unfolding seenAfter
-m110-marked-iff-among row zero label = inr (digit-none 32 (label % 32) (label / 32), λ (i, l, h, e). omega arith)
-m110-marked-iff-among row (suc k) label = elim (eq-or-ne label (row k)) [
-  | inl e ↦ inl (ap (markOf (seenAfter row (suc k))) e ∙ m110-label-marked (seenAfter row k) (seen-long row k) (row k), (k, zero-le, omega arith, sym e))
-  | inr ne ↦
-      subst (λ (m : ℕ). Marks m (Among row (suc k) label)) (sym (m110-others-stay (seenAfter row k) (seen-long row k) (row k) label ne))
-      (marks-same (m110-marked-iff-among row k label) (λ (i, l, h, e). (i, l, omega arith, e)) (back ne))
+m110-marked-iff-among row zero label = inr (digit-none 32 (label % 32) (label / 32), none-yet (λ i. row i ≡ label))
+m110-marked-iff-among row (suc k) label = elim (eq-or-ne (row k) label) [
+  | inl same ↦ rw (← add-one k, ← same, digit-put 1 (omega arith) seen (row k % 32) (row k / 32) (inside seen long (row k)))
+      (marks-more (λ i. row i ≡ row k) k (markOf seen (row k)) 1 (m110-marked-iff-among row k (row k)) (inl (refl, refl)))
+  | inr other ↦ rw (← add-one k, m110-others-stay seen long (row k) label (λ e. other (sym e)), ← or-zero-r (markOf seen label))
+      (marks-more (λ i. row i ≡ label) k (markOf seen label) 0 (m110-marked-iff-among row k label) (inr (refl, other)))
 ]
   where
-    back : label ≢ row k → Among row (suc k) label → Among row k label
-    back ne (i, l, h, e) = elim (eq-or-ne i k) [ inl same ↦ absurd (ne (sym e ∙ ap row same)) | inr other ↦ (i, l, omega arith, e) ]
+    seen : List ℕ
+    seen = seenAfter row k
 
-power : (label : ℕ) → label < 256 → 2 ^ (label / 32) < 2 ^ 8
-power label h = pow-lt {i = label / 32} {j = 8} (omega arith)
+    long : length seen ≡ 32
+    long = seen-long row k
+
+-- the bit of a label is one of its byte's
+bit-in-byte : (label : ℕ) → label < 256 → 2 ^ (label / 32) < 2 ^ 8
+bit-in-byte label h = pow-lt {i = label / 32} {j = 8} (omega arith)
 
 -- for labels 0 to 255 the marks are 32 bytes
 pub m110-32-bytes : (row : ℕ → ℕ) → ((i : ℕ) → row i < 256) → (k : ℕ)
@@ -68,6 +74,6 @@ m110-32-bytes row labels (suc k) = (seen-long row (suc k), bytes (m110-32-bytes 
     bytes : ((j : ℕ) → getD (seenAfter row k) j 0 < 256) → (j : ℕ) → getD (set (seenAfter row k) at byte) j 0 < 256
     bytes before j = elim (eq-or-ne j at) [
       | inl e ↦ rw (e, getD-set-same (seenAfter row k) at byte 0 (omega (arith, seen-long row k)))
-          (or-lt 8 _ _ (before at) (omega (arith, power (row k) (labels k))))
+          (or-lt 8 _ _ (before at) (omega (arith, bit-in-byte (row k) (labels k))))
       | inr ne ↦ rw (getD-set-other (seenAfter row k) at j byte 0 ne) (before j)
     ]
