@@ -2,7 +2,7 @@
 use mathlib.Core.List.{List}
 use mathlib.Core.Logic.{_≢_}
 use mathlib.Core.Path.{_≡_, sym, subst, _∙_}
-use Prim.Native.Nat.{ℕ, suc, _+_, _-_, _*_, _≤_, _<_}
+use Prim.Native.Nat.{ℕ, _+_, _-_, _*_, _≤_, _<_}
 use native.Mathlib.Omega.{arith}
 use native.Mathlib.Numerals.{add-one}
 use lib.Dec.{ltb}
@@ -39,23 +39,20 @@ pub record Turn (labels : List ℕ) (k : ℕ) (seen : List ℕ) (below above : L
       → (first second third : ℕ) → first ≡ markOf (withLabel seen w) (w + 1) → second ≡ markOf (withLabel seen w) (w - 1) → third ≡ bit (ltb w last)
       → Taken labels k seen below above p q last written w first second third
 
--- `next` is where the label stands in the list
 pub turn-of : {labels : List ℕ} {k : ℕ} {seen : List ℕ} {below above : List Label} {p q last : ℕ} {written : List ℕ} → Passed labels k seen below above p q last written
-    → (next : ℕ) → next ≡ suc k → next < length labels → length labels ≤ 255 → ¬ LabelOutside labels → Turn labels k seen below above p q last written (getD labels next 0)
+    → k + 1 < length labels → length labels ≤ 255 → ¬ LabelOutside labels → Turn labels k seen below above p q last written (getD labels (k + 1) 0)
 unfolding tripleAt
-turn-of {labels} {k} {seen} {below} {above} {p} {q} {last} {written} s next e left few inside =
-    let more : k + 1 < length labels = omega arith in
-    subst (λ (i : ℕ). Turn labels k seen below above p q last written (getD labels i 0)) (sym e) record {
-      low = label s more few inside .0;
-      high = label s more few inside .1;
-      seen-long = seen-long s more few inside;
-      room-below = omega (arith, s .few);
-      room-above = omega (arith, s .few);
-      away-past = away-past s more few inside;
-      away-seen = away-seen s more few inside;
-      take = λ clear new first second third f g t. record {
-        enough-below = rw (t ∙ third-bit s more few inside, g ∙ second-bit s more few inside) (enough-below s more few inside clear new);
-        enough-above = rw (t ∙ third-bit s more few inside, f ∙ first-bit s more few inside) (enough-above s more few inside clear new);
-        after = rw (t ∙ third-bit s more few inside, g ∙ second-bit s more few inside, f ∙ first-bit s more few inside, add-one k) (taken-passed s more few inside clear new);
-      };
-    }
+turn-of {labels} {k} {seen} {below} {above} {p} {q} {last} {written} s more few inside = subst (λ (i : ℕ). Turn labels k seen below above p q last written (getD labels i 0)) (sym (add-one k)) record {
+  low = label s more few inside .0;
+  high = label s more few inside .1;
+  seen-long = seen-long s more few inside;
+  room-below = omega (arith, s .few);
+  room-above = omega (arith, s .few);
+  away-past = away-past s more few inside;
+  away-seen = away-seen s more few inside;
+  take = λ clear new first second third f g t. record {
+    enough-below = rw (t ∙ third-bit s more few inside, g ∙ second-bit s more few inside) (enough-below s more few inside clear new);
+    enough-above = rw (t ∙ third-bit s more few inside, f ∙ first-bit s more few inside) (enough-above s more few inside clear new);
+    after = rw (t ∙ third-bit s more few inside, g ∙ second-bit s more few inside, f ∙ first-bit s more few inside, add-one k) (taken-passed s more few inside clear new);
+  };
+}

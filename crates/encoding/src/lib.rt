@@ -75,7 +75,7 @@ pub fn encode(labels: &[u8], record: &mut [u8]) -> bool
     while 8 * m + 1 < n {
         let mut i = 0;
         while i < 8 {
-            let next = 8 * m + 1 + i;
+            let next = 8 * m + i + 1;
             if next == n {
                 return true;
             }

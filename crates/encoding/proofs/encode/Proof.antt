@@ -62,8 +62,11 @@ called = (
   runs-after-reads.Learnt,
 )
 
--- the places of the code: before eight turns, between two turns, where the label's index is known, where the label is seen to be new, where
+-- the places of the code: the start, before eight turns, between two turns, where the label's index is known, where the label is seen to be new, where
 -- its triple is known, where that is set, and where the label is taken
+abbrev Start : Type 0
+Start = lts.Start called reads.Pre reads.Post Inv-loop2 μ-loop2 Inv-loop μ-loop
+
 abbrev Eight : Type 0
 Eight = lts.At-loop called reads.Pre reads.Post Inv-loop2 μ-loop2 Inv-loop μ-loop
 
@@ -86,6 +89,9 @@ abbrev Kept : Type 0
 Kept = lts.Else3 called reads.Pre reads.Post Inv-loop2 μ-loop2 Inv-loop μ-loop
 
 -- from a place to one before it
+abbrev start : Eight → Start
+start b = b .before .before .before .before .before .before
+
 abbrev eight : Between → Eight
 eight l = l .before .before
 
@@ -106,14 +112,14 @@ triple-done e = e .before .before .before .before .before .before
 
 -- the labels that were lent, and how many triples are set
 abbrev labelsAt : Eight → List ℕ
-labelsAt b = b .before .before .before .before .before .before .args .labels .now
+labelsAt b = start b .args .labels .now
 
 abbrev done : Between → ℕ
 done l = 8 * eight l .loop .m + l .loop2 .i
 
 -- the label that is read
 abbrev read : Between → ℕ
-read l = getD (labelsAt (eight l)) (8 * eight l .loop .m + 1 + l .loop2 .i) 0
+read l = getD (labelsAt (eight l)) (done l + 1) 0
 
 -- the three bits of the triple
 abbrev first-bit : Told → ℕ
@@ -129,7 +135,7 @@ third-bit o = o .before .before .before .before .one-if .result
 in-eight : (x : Indexed) → between x .loop2 .i < 8
 in-eight x = x .before .before .before .loop2-test .taken
 
-next-within : (x : Indexed) → let l = between x in 8 * eight l .loop .m + 1 + l .loop2 .i < length (labelsAt (eight l))
+next-within : (x : Indexed) → let l = between x in done l + 1 < length (labelsAt (eight l))
 next-within x = omega (arith, x .before .before .if1 .left, between x .loop2 .inv .0 .within)
 
 -- the turn that follows
@@ -139,8 +145,8 @@ turn : (x : Indexed)
     (l .loop2 .last .0) (l .loop2 .«record») (read l)
 turn x =
     let l = between x in
-    let s = eight l .before .before .before .before .before .before in
-    turn-of (l .loop2 .inv .0) (8 * eight l .loop .m + 1 + l .loop2 .i) (omega arith) (next-within x) (s .pre .0 .1) (s .pre .1 .0)
+    let s = start (eight l) in
+    turn-of (l .loop2 .inv .0) (next-within x) (s .pre .0 .1) (s .pre .1 .0)
 
 -- the marks beside the label, as they are read when it is marked
 marked : (o : Told)
@@ -185,11 +191,11 @@ taken e =
 
 -- the record slice keeps its length
 as-long : (b : Eight) (written : List ℕ) → length written ≡ 97
-    → length written ≡ length (b .before .before .before .before .before .before .args .«record» .now)
+    → length written ≡ length (start b .args .«record» .now)
 as-long b written long =
-    long ∙ sym (ap length (b .before .before .before .before .before .before .pre .1 .1) ∙ length-replicate {A = ℕ} 97 0)
+    long ∙ sym (ap length (start b .pre .1 .1) ∙ length-replicate {A = ℕ} 97 0)
 
-as-long-between : (l : Between) → length (l .loop2 .«record») ≡ length (eight l .before .before .before .before .before .before .args .«record» .now)
+as-long-between : (l : Between) → length (l .loop2 .«record») ≡ length (start (eight l) .args .«record» .now)
 as-long-between l = as-long (eight l) (l .loop2 .«record») (l .loop2 .inv .0 .partly .long)
 
 cast-record : tie.Need-cast-record Inv-loop2 μ-loop2 Inv-loop μ-loop
@@ -234,7 +240,7 @@ same-length c = as-long-between (c .before .before)
 returns : tie.Need-returns Inv-loop2 μ-loop2 Inv-loop μ-loop
 returns c =
     let l = c .before .before in
-    let s = eight l .before .before .before .before .before .before in
+    let s = start (eight l) in
     passed-all (l .loop2 .inv .0) (omega (arith, c .if1 .taken)) (s .pre .0 .1) (s .pre .1 .0)
 
 shared-slice-read-t32 : tie.Need-shared-slice-read-t32 Inv-loop2 μ-loop2 Inv-loop μ-loop
@@ -275,7 +281,7 @@ set-triple-requires c κs =
     let x = indexed (new (c .before .before)) in
     let l = between x in
     let room = l .loop2 .inv .0 .partly .long in
-    let few = eight l .before .before .before .before .before .before .pre .0 .1 in
+    let few = start (eight l) .pre .0 .1 in
     (in-eight x, omega (arith, room, few, next-within x), omega (arith, room), c .before .triple-number .ensures .1)
 
 array-copy-out-past-runs : tie.Need-array-copy-out-past-runs Inv-loop2 μ-loop2 Inv-loop μ-loop
@@ -351,7 +357,7 @@ same-length-4 c = as-long (c .before) (c .before .loop .«record») (c .before .
 returns-4 : tie.Need-returns-4 Inv-loop2 μ-loop2 Inv-loop μ-loop
 returns-4 c =
     let b = c .before in
-    let s = b .before .before .before .before .before .before in
+    let s = start b in
     passed-all (b .loop .inv) (omega (arith, c .loop-test .left, b .loop .inv .within)) (s .pre .0 .1) (s .pre .1 .0)
 
 pub encode-spec : {M : Type 1} → statement M
