@@ -47,10 +47,10 @@ pub fn group(bytes: &[u8], k: usize) -> u8
     ((load(bytes, at, down) >> down) & 7) as u8
 }
 
-// Sets group i of the eight from group 8m on to a number from 0 to 7. Eight groups fill three bytes, so i alone tells the shift and the
-// mask: where a loop over i is written out by the compiler, they are constants.
+// Sets group 8m + i to a number from 0 to 7. Eight groups fill three bytes, so i alone tells the shift and the mask: where a loop over i
+// is written out by the compiler, they are constants.
 pub fn set_group(bytes: &mut [u8], m: usize, i: usize, value: u8)
-    requires { ⌜ (3 * (8 * m + i) + 3 ≤ 8 * length (now bytes)) × (length (now bytes) ≤ 65535) × (i < 8) × (value < 8) ⌝ }
+    requires { ⌜ (3 * (8 * m + i) + 3 ≤ 8 * length (now bytes)) × (length (now bytes) ≤ 65535) × (value < 8) ⌝ }
     ensures { λ _. ⌜ GroupSet (now (bytes .entry)) (now (bytes .exit)) (8 * m + i) value ⌝ }
 {
     let at = 3 * m + 3 * i / 8;

@@ -44,9 +44,9 @@ fn triple_number(first: usize, second: usize, third: usize) -> u8
     (4 * first + 2 * second + third) as u8
 }
 
-// Sets triple i of the eight from position 8m + 2 on, a number from 0 to 7, in a record: its three bits, in the bytes that have them.
+// Sets the triple of position 8m + i + 2, a number from 0 to 7, in a record: its three bits, in the bytes that have them.
 fn set_triple(record: &mut [u8], m: usize, i: usize, triple: u8)
-    requires { ⌜ (i < 8) × (8 + 3 * (8 * m + i) + 3 ≤ 8 * length (now «record»)) × (length (now «record») ≤ 97) × (triple < 8) ⌝ }
+    requires { ⌜ (8 + 3 * (8 * m + i) + 3 ≤ 8 * length (now «record»)) × (length (now «record») ≤ 97) × (triple < 8) ⌝ }
     ensures { λ _. ⌜ TripleSet (now («record» .entry)) (now («record» .exit)) (8 * m + i + 2) (tripleOf triple) ⌝ }
 {
     bits::set_group(&mut record[1..], m, i, triple);

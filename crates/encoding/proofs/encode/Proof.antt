@@ -282,7 +282,7 @@ set-triple-requires c κs =
     let l = between x in
     let room = l .loop2 .inv .0 .partly .long in
     let few = start (eight l) .pre .0 .1 in
-    (in-eight x, omega (arith, room, few, next-within x), omega (arith, room), c .before .triple-number .ensures .1)
+    (omega (arith, room, few, next-within x), omega (arith, room), c .before .triple-number .ensures .1)
 
 array-copy-out-past-runs : tie.Need-array-copy-out-past-runs Inv-loop2 μ-loop2 Inv-loop μ-loop
 array-copy-out-past-runs c = omega (arith, turn (indexed (new (told-at (c .before .before)))) .room-below)
