@@ -9,7 +9,7 @@ use lib.ListN.{length, take, drop}
 use Rattle.finite.specs.Decide.{dec-⊎}
 use Rattle.record.specs.Checked.{checked}
 use Rattle.record.specs.declared.Refusal.{Refusal}
-use Rattle.record.specs.declared.Refusal.the-variants.{ShortOutput, LongBook, BeyondBook, OtherSummary}
+use Rattle.record.specs.declared.Refusal.the-variants.{ShortOutput, TooLong, BeyondBook, OtherSummary}
 use Rattle.book.specs.Book.{longest, front, recordsOf}
 use Rattle.book.specs.Summary.{Summary, summaryOf, dec-same}
 use Rattle.book.specs.declared.NextAnswer.{NextAnswer}
@@ -39,7 +39,7 @@ dec-beyond lent used place = dec-⊎ (decLt lent used) (decLt used place)
 abbrev pub nextAnswer : (book : List ℕ) (used place : ℕ) → NextAnswer
 nextAnswer book used place =
     ite (dec-beyond (length book) used place) (Refused BeyondBook)
-    (ite (decLt longest used) (Refused LongBook)
+    (ite (decLt longest used) (Refused TooLong)
     (ite (ℕ-discrete place used) End
     (checked (λ refusal. BadRecord refusal 1) (recordAt book used place)
     (Record (length (recordAt book used place))))))
@@ -66,11 +66,11 @@ eachChecked refuse ordinal (one ∷ others) good =
 abbrev pub addAnswer : (book : List ℕ) (used : ℕ) («record» : List ℕ) → Summary → AddAnswer
 addAnswer book used «record» summary =
     ite (decLt (length book) used) (add.Refused BeyondBook)
-    (ite (decLt longest used) (add.Refused LongBook)
+    (ite (decLt longest used) (add.Refused TooLong)
     (eachChecked add.BadRecord 1 (recordsOf (take used book))
     (ite (dec-same summary (summaryOf (take used book)))
     (checked add.Refused «record»
-    (ite (decLt longest (used + length «record»)) (add.Refused LongBook)
+    (ite (decLt longest (used + length «record»)) (add.Refused TooLong)
     (ite (decLt (length book) (used + length «record»)) (add.Refused ShortOutput)
     (add.Added (used + length «record»)))))
     (add.Refused OtherSummary))))

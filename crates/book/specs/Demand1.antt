@@ -8,7 +8,7 @@ use native.Mathlib.Decide.{decLt, ℕ-discrete}
 use lib.ListN.{length, take}
 use Rattle.record.specs.Checked.{checked, Readable, Refuses, Sorted, refused, read, sorted, refused-checked, readable-checked}
 use Rattle.record.specs.declared.Refusal.{Refusal}
-use Rattle.record.specs.declared.Refusal.the-variants.{ShortOutput, LongBook, BeyondBook, OtherSummary}
+use Rattle.record.specs.declared.Refusal.the-variants.{ShortOutput, TooLong, BeyondBook, OtherSummary}
 use Rattle.book.specs.Book.{longest, recordsOf, GoodBook}
 use Rattle.book.specs.Summary.{Summary, summaryOf, dec-same}
 use Rattle.book.specs.Answer.{Beyond, dec-beyond, recordAt, nextAnswer, eachChecked, addAnswer}
@@ -26,7 +26,7 @@ Inside book used place = (¬ Beyond (length book) used place) × ¬ (longest < u
 -- an answer with its cause, and without the causes that the order names before it
 pub data NextSays (book : List ℕ) (used place : ℕ) : NextAnswer → Type 0 where
   beyond : Beyond (length book) used place → NextSays book used place (Refused BeyondBook)
-  long : ¬ Beyond (length book) used place → longest < used → NextSays book used place (Refused LongBook)
+  long : ¬ Beyond (length book) used place → longest < used → NextSays book used place (Refused TooLong)
   end : Inside book used place → place ≡ used → NextSays book used place End
   bad-record : {refusal : Refusal} → Inside book used place → place ≢ used → Refuses (recordAt book used place) refusal
       → NextSays book used place (BadRecord refusal 1)
@@ -84,7 +84,7 @@ Own book used summary = Fits book used × GoodBook (take used book) × (summary 
 -- an answer with its cause, and without the causes that the order names before it
 pub data AddSays (book : List ℕ) (used : ℕ) («record» : List ℕ) (summary : Summary) : AddAnswer → Type 0 where
   beyond : length book < used → AddSays book used «record» summary (add.Refused BeyondBook)
-  long : ¬ (length book < used) → longest < used → AddSays book used «record» summary (add.Refused LongBook)
+  long : ¬ (length book < used) → longest < used → AddSays book used «record» summary (add.Refused TooLong)
   bad-book : {refusal : Refusal} {at : ℕ} → Fits book used → FirstBad refusal at 1 (recordsOf (take used book))
       → AddSays book used «record» summary (add.BadRecord refusal at)
   other : Fits book used → GoodBook (take used book) → ¬ (summary ≡ summaryOf (take used book))
@@ -92,7 +92,7 @@ pub data AddSays (book : List ℕ) (used : ℕ) («record» : List ℕ) (summary
   bad-record : {refusal : Refusal} → Own book used summary → Refuses «record» refusal
       → AddSays book used «record» summary (add.Refused refusal)
   too-long : Own book used summary → Readable «record» → longest < used + length «record»
-      → AddSays book used «record» summary (add.Refused LongBook)
+      → AddSays book used «record» summary (add.Refused TooLong)
   short : Own book used summary → Readable «record» → ¬ (longest < used + length «record»)
       → length book < used + length «record» → AddSays book used «record» summary (add.Refused ShortOutput)
   added : Own book used summary → Readable «record» → ¬ (longest < used + length «record»)
@@ -110,7 +110,7 @@ module _ (book : List ℕ) (used : ℕ) («record» : List ℕ) (summary : Summa
   roomy = ite (decLt (length book) size) (add.Refused ShortOutput) (add.Added size)
 
   abbrev measured : AddAnswer
-  measured = ite (decLt longest size) (add.Refused LongBook) roomy
+  measured = ite (decLt longest size) (add.Refused TooLong) roomy
 
   abbrev looked : AddAnswer
   looked = checked add.Refused «record» measured

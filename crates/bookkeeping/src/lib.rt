@@ -37,7 +37,7 @@ pub fn next_answer(book: &[u8], used: usize, place: usize) -> NextAnswer
         return NextAnswer::Refused(Refusal::BeyondBook);
     }
     if 65535 < used {
-        return NextAnswer::Refused(Refusal::LongBook);
+        return NextAnswer::Refused(Refusal::TooLong);
     }
     if place == used {
         return NextAnswer::End;
@@ -154,7 +154,7 @@ fn admit(book: &[u8], used: usize, record: &[u8], totals: Totals) -> Admission
         return Admission::Refused(Refusal::BeyondBook);
     }
     if 65535 < used {
-        return Admission::Refused(Refusal::LongBook);
+        return Admission::Refused(Refusal::TooLong);
     }
     match sum_up(&book[..used]) {
         BookSum::BadRecord(refusal, ordinal) => Admission::BadRecord(refusal, ordinal),
@@ -167,7 +167,7 @@ fn admit(book: &[u8], used: usize, record: &[u8], totals: Totals) -> Admission
                 Judged::Accepted(n, fallen) => {
                     let size = used + record.len();
                     if 65535 < size {
-                        return Admission::Refused(Refusal::LongBook);
+                        return Admission::Refused(Refusal::TooLong);
                     }
                     if book.len() < size {
                         return Admission::Refused(Refusal::ShortOutput);

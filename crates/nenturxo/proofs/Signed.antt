@@ -6,7 +6,7 @@ use borrow.Author.Tests.{lt-ltb}
 use lib.IntN.{ℤ, pos, negℤ, _-ℤ_, +ℤ-idl}
 use Rattle.record.specs.Refusal.{numberOf}
 use Rattle.record.specs.declared.Refusal.{Refusal}
-use Rattle.record.specs.declared.Refusal.the-variants.{Count, RoomSize, Overlap, Uncovered, FourMeet, LabelOutside, LabelTwice, BarredPattern, NoKind, ShortBody, BytesAfter, MissingRun, SeveralRuns, SpareBit, ShortOutput, PositionOutside, SamePosition, TextForm, NotSlicing, NameTwice, LongBook, BeyondBook, OtherSummary, OtherLength, ZeroSize, BrokenRelation, EmptyGroup}
+use Rattle.record.specs.declared.Refusal.the-variants.{Count, RoomSize, Overlap, Uncovered, FourMeet, LabelOutside, LabelTwice, BarredPattern, NoKind, ShortBody, BytesAfter, MissingRun, SeveralRuns, SpareBit, ShortOutput, PositionOutside, SamePosition, TextForm, NotSlicing, NameTwice, TooLong, BeyondBook, OtherSummary, OtherLength, ZeroSize, BrokenRelation, EmptyGroup, BadMove, OnlyRoom}
 use Rattle.nenturxo.specs.Code.{refusalCode, badRecordCode}
 use mir.Syntax.{w32, w64}
 use mir.Val.{SFits, toZ, ofZ}
@@ -26,8 +26,8 @@ pub negated-fits : (n : ℕ) → n < 2147483648 → SFits w32 (negℤ (pos n))
 negated-fits zero h = record { sfits = omega arith }
 negated-fits (suc n) h = record { sfits = omega arith }
 
--- a refusal's number is one of 1 to 27
-pub number-small : (refusal : Refusal) → numberOf refusal ≤ 27
+-- a refusal's number is one of 1 to 29
+pub number-small : (refusal : Refusal) → numberOf refusal ≤ 29
 number-small Count = omega arith
 number-small RoomSize = omega arith
 number-small Overlap = omega arith
@@ -48,13 +48,15 @@ number-small SamePosition = omega arith
 number-small TextForm = omega arith
 number-small NotSlicing = omega arith
 number-small NameTwice = omega arith
-number-small LongBook = omega arith
+number-small TooLong = omega arith
 number-small BeyondBook = omega arith
 number-small OtherSummary = omega arith
 number-small OtherLength = omega arith
 number-small ZeroSize = omega arith
 number-small BrokenRelation = omega arith
 number-small EmptyGroup = omega arith
+number-small BadMove = omega arith
+number-small OnlyRoom = omega arith
 
 pub refused-fits : (refusal : Refusal) → SFits w32 (refusalCode refusal)
 refused-fits refusal = negated-fits (numberOf refusal) (omega (arith, number-small refusal))

@@ -1,7 +1,7 @@
 -- The sheet's table of refusals: cause and number. "A number that any request adds joins document 01's table."
 use Prim.Native.Nat.{ℕ}
 use Rattle.record.specs.declared.Refusal.{Refusal}
-use Rattle.record.specs.declared.Refusal.the-variants.{Count, RoomSize, Overlap, Uncovered, FourMeet, LabelOutside, LabelTwice, BarredPattern, NoKind, ShortBody, BytesAfter, MissingRun, SeveralRuns, SpareBit, ShortOutput, PositionOutside, SamePosition, TextForm, NotSlicing, NameTwice, LongBook, BeyondBook, OtherSummary, OtherLength, ZeroSize, BrokenRelation, EmptyGroup}
+use Rattle.record.specs.declared.Refusal.the-variants.{Count, RoomSize, Overlap, Uncovered, FourMeet, LabelOutside, LabelTwice, BarredPattern, NoKind, ShortBody, BytesAfter, MissingRun, SeveralRuns, SpareBit, ShortOutput, PositionOutside, SamePosition, TextForm, NotSlicing, NameTwice, TooLong, BeyondBook, OtherSummary, OtherLength, ZeroSize, BrokenRelation, EmptyGroup, BadMove, OnlyRoom}
 
 abbrev pub numberOf : Refusal → ℕ
 -- room or label list of 0 or over 255 entries
@@ -44,8 +44,8 @@ numberOf TextForm = 18
 numberOf NotSlicing = 19
 -- one nonzero name on two rooms (M-106)
 numberOf NameTwice = 20
--- a used part of a book that is or would become longer than 65,535 bytes (M-107)
-numberOf LongBook = 21
+-- a used part of a book that is or would become longer than 65,535 bytes (M-107), or a trace of over 65,535 bytes (M-111)
+numberOf TooLong = 21
 -- a used length beyond the lent slice or a place beyond the used length (M-107)
 numberOf BeyondBook = 22
 -- a summary that is not the book's (M-107)
@@ -58,3 +58,7 @@ numberOf ZeroSize = 25
 numberOf BrokenRelation = 26
 -- an empty group (M-109)
 numberOf EmptyGroup = 27
+-- a move of an unknown kind, without its body or with a triple above 7 (M-111)
+numberOf BadMove = 28
+-- the only room is taken away (M-111)
+numberOf OnlyRoom = 29

@@ -41,13 +41,15 @@ pub enum Refusal {
     TextForm,
     NotSlicing,
     NameTwice,
-    LongBook,
+    TooLong,
     BeyondBook,
     OtherSummary,
     OtherLength,
     ZeroSize,
     BrokenRelation,
     EmptyGroup,
+    BadMove,
+    OnlyRoom,
 }
 
 impl Refusal {
@@ -76,13 +78,15 @@ impl Refusal {
             Refusal::TextForm => 18,
             Refusal::NotSlicing => 19,
             Refusal::NameTwice => 20,
-            Refusal::LongBook => 21,
+            Refusal::TooLong => 21,
             Refusal::BeyondBook => 22,
             Refusal::OtherSummary => 23,
             Refusal::OtherLength => 24,
             Refusal::ZeroSize => 25,
             Refusal::BrokenRelation => 26,
             Refusal::EmptyGroup => 27,
+            Refusal::BadMove => 28,
+            Refusal::OnlyRoom => 29,
         }
     }
 }
