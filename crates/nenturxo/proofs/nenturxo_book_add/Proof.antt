@@ -1,9 +1,6 @@
 -- `nenturxo::nenturxo_book_add` meets its contract: the answer of adding, as a number.
-use mathlib.Core.Path.{sym, subst}
-use Rattle.book.specs.Summary.{held}
-use Rattle.nenturxo.specs.Size.{AddFits}
-use Rattle.nenturxo.proofs.BookSizes.{add-fits}
 use borrow.Author.Needs.{needs}
+use Rattle.nenturxo.proofs.BookSizes.{add-fits}
 use Rattle.nenturxo.proofs.nenturxo_book_add.Statement.{statement}
 use Rattle.nenturxo.proofs.nenturxo_book_add.Tie as tie
 
@@ -11,11 +8,7 @@ add-record-requires : tie.Need-add-record-requires
 add-record-requires c κs = search needs
 
 add-code-requires : tie.Need-add-code-requires
-add-code-requires c κs =
-    let call = c .before .before .add-record in
-    let a = c .before .before .before .before .before .before .before .before .before .before .args in
-    subst AddFits (sym (call .ensures .answered))
-    (add-fits (a .book .now) (a .used) (a .«record» .now) (held (a .plans .now) (a .rooms .now) (a .rises .now) (a .falls .now)))
+add-code-requires c κs = add-fits (c .before .before .add-record .ensures)
 
 same-length : tie.Need-same-length
 same-length c = search needs

@@ -1,11 +1,10 @@
 -- `nenturxo::nenturxo_book_next` meets its contract: the answer of reading on, as a number.
-use mathlib.Core.Path.{sym, ap, subst, _∙_}
+use mathlib.Core.Path.{ap, _∙_}
 use mir.Syntax.{w32}
 use mir.ValLaws.{toZ-ofZ}
-use Rattle.nenturxo.specs.Code.{nextCode}
-use Rattle.nenturxo.specs.Size.{NextFits}
-use Rattle.nenturxo.proofs.BookSizes.{next-fits}
 use borrow.Author.Needs.{needs}
+use Rattle.codes.specs.Code.{nextCode}
+use Rattle.nenturxo.proofs.BookSizes.{next-fits}
 use Rattle.nenturxo.proofs.nenturxo_book_next.Statement.{statement}
 use Rattle.nenturxo.proofs.nenturxo_book_next.Tie as tie
 
@@ -13,7 +12,7 @@ next-answer-requires : tie.Need-next-answer-requires
 next-answer-requires c κs = search needs
 
 next-code-requires : tie.Need-next-code-requires
-next-code-requires c κs = let a = c .before .before .args in subst NextFits (sym (c .next-answer .ensures)) (next-fits (a .book .now) (a .used) (a .place))
+next-code-requires c κs = let a = c .before .before .args in rw (c .next-answer .ensures) (next-fits (a .book .now) (a .used) (a .place))
 
 returns : tie.Need-returns
 returns c = toZ-ofZ w32 (c .next-code .result) (search needs) ∙ c .next-code .ensures ∙ ap nextCode (c .before .next-answer .ensures)

@@ -1,6 +1,6 @@
 -- `nenturxo::nenturxo_record_in` meets its contract: a walk of its MIR, by hand, with no branch and no loop: the record is lent on to
 -- `drawn::record_in`, of which a copy is kept, and the two output slices are given to it for good. Its answer, whose rooms are at most 255,
--- is what `record_code` makes the number of. Assumes nothing.
+-- is what `codes::record_code` makes the number of. Assumes nothing.
 use mathlib.Core.Path.{_≡_, refl}
 use Prim.Native.Nat.{ℕ}
 use mathlib.Core.List.{List, [], _∷_}
@@ -43,11 +43,11 @@ use Rattle.drawn.proofs.record_in as record-in
 use Rattle.drawn.proofs.record_in.Symbol as record-in-def
 use Rattle.drawn.proofs.record_in.Symbol.{name as #drawn·record-in}
 use Rattle.drawn.proofs.record_in.Met as record-in-thm
-use Rattle.nenturxo.specs.Code.{recordCode}
-use Rattle.nenturxo.proofs.record_code as number
-use Rattle.nenturxo.proofs.record_code.Symbol as number-def
-use Rattle.nenturxo.proofs.record_code.Symbol.{name as #nenturxo·record-code}
-use Rattle.nenturxo.proofs.record_code.Met as number-thm
+use Rattle.codes.specs.Code.{recordCode}
+use Rattle.codes.proofs.record_code as number
+use Rattle.codes.proofs.record_code.Symbol as number-def
+use Rattle.codes.proofs.record_code.Symbol.{name as #codes·record-code}
+use Rattle.codes.proofs.record_code.Met as number-thm
 use Rattle.nenturxo.proofs.nenturxo_record_in.Key.{name as #nenturxo·nenturxo-record-in}
 use Rattle.nenturxo.proofs.nenturxo_record_in as exported
 use Rattle.nenturxo.proofs.nenturxo_record_in.Statement as stated
@@ -82,7 +82,7 @@ module _ {M : Type 1} (𝓤 : URA M) (H : Heap 𝓤) (A : Atoms 𝓤) (W : Given
   goes-number : (a : RecordAnswer) (v : Val) → Few a → ent 𝓤 (sem 𝓤 H A (E.the-row .own a (v ∷ []))) (Number 𝓤 H A mem run .pre (to-number a v))
   goes-number a v h = qed W (‵ (E.the-row .own a (v ∷ [])) ∷ []) ∵ says ! h $ nothing ! $ move ! (1 ∷ 0 ∷ []) $ fjoin ! $ nothing ! $ frame ! $ done !
 
-  module _ (C : Calls 𝓤 H) (Λ : Loops 𝓤 H) (fm : FmC 𝓤 H (W .laws) C) (known-r : Triple 𝓤 (C #drawn·record-in) (Inner 𝓤 H A mem run)) (known-n : Triple 𝓤 (C #nenturxo·record-code) (Number 𝓤 H A mem run)) where
+  module _ (C : Calls 𝓤 H) (Λ : Loops 𝓤 H) (fm : FmC 𝓤 H (W .laws) C) (known-r : Triple 𝓤 (C #drawn·record-in) (Inner 𝓤 H A mem run)) (known-n : Triple 𝓤 (C #codes·record-code) (Number 𝓤 H A mem run)) where
     walk : Fits d → ent 𝓤 (onEntry 𝓤 H A exported.signature (lives d) (shares d) (lent d) (at d)) (WpFn 𝓤 H C Λ code.function (u d ∷ s₁ d ∷ s₂ d ∷ []) (Post 𝓤 H A W i32 (exported.clauses 𝓤 H A mem run) d tt))
     walk fit =
         qed W (Tokens d 𝓤 ∷ ‵ (Own d) ∷ []) ∵
@@ -119,7 +119,7 @@ module _ {M : Type 1} (𝓤 : URA M) (H : Heap 𝓤) (A : Atoms 𝓤) (W : Given
         by ! (ends 𝓤 H A W i32 (exported.clauses 𝓤 H A mem run) d tt r t (ws .1 .0) (ws .1 .1 .0) h₁ h₂ (factI 𝓤 _ (emp 𝓤) (record { answer = a; numbered = e; did = f }))))))))))))))))))))))))
 
 exported-meets : {M : Type 1} (𝓤 : URA M) (H : Heap 𝓤) (A : Atoms 𝓤) → Given 𝓤 H A → (mem : Memory → SProp 𝓤) (run : Routine → Fun 𝓤) (𝓣 : Tables 𝓤 H)
-    → Triple 𝓤 (𝓣 .C #drawn·record-in) (Inner 𝓤 H A mem run) → Triple 𝓤 (𝓣 .C #nenturxo·record-code) (Number 𝓤 H A mem run)
+    → Triple 𝓤 (𝓣 .C #drawn·record-in) (Inner 𝓤 H A mem run) → Triple 𝓤 (𝓣 .C #codes·record-code) (Number 𝓤 H A mem run)
     → Meets 𝓤 H A exported.signature (WpFn 𝓤 H (𝓣 .C) (𝓣 .Λ) code.function) (exported.spec 𝓤 H A mem run)
 exported-meets 𝓤 H A W mem run 𝓣 known-r known-n = meets 𝓤 H A W i32 (exported.clauses 𝓤 H A mem run) (WpFn 𝓤 H (𝓣 .C) (𝓣 .Λ) code.function) (WpFn-mono 𝓤 H (W .laws) 𝓣 code.function)
     (λ d g. walk 𝓤 H A W mem run d (𝓣 .C) (𝓣 .Λ) (fmOf 𝓤 H (W .laws) 𝓣) known-r known-n)
@@ -131,4 +131,4 @@ nenturxo-record-in-spec 𝓤 H 𝓜 𝓖 𝓡 =
     (tables 𝓤 H 𝓜 𝓡 code.env .C) (tables 𝓤 H 𝓜 𝓡 code.env .Λ) #nenturxo·nenturxo-record-in code.function (code.unfolded 𝓤 H 𝓜 𝓡)
     (exported-meets 𝓤 H (𝓖 .A) (givenOf 𝓤 H 𝓜 𝓖) (𝓜 .mem) (𝓡 .run) (tablesOf 𝓤 H 𝓜 (tables 𝓤 H 𝓜 𝓡 code.env))
     (cited 𝓤 H (Inner 𝓤 H (𝓖 .A) (𝓜 .mem) (𝓡 .run)) 𝓜 𝓡 code.env #drawn·record-in record-in-def.routine code.calls-drawn·record-in (record-in-thm.met 𝓤 H 𝓜 𝓖 𝓡))
-    (cited 𝓤 H (Number 𝓤 H (𝓖 .A) (𝓜 .mem) (𝓡 .run)) 𝓜 𝓡 code.env #nenturxo·record-code number-def.routine code.calls-nenturxo·record-code (number-thm.met 𝓤 H 𝓜 𝓖 𝓡)))
+    (cited 𝓤 H (Number 𝓤 H (𝓖 .A) (𝓜 .mem) (𝓡 .run)) 𝓜 𝓡 code.env #codes·record-code number-def.routine code.calls-codes·record-code (number-thm.met 𝓤 H 𝓜 𝓖 𝓡)))

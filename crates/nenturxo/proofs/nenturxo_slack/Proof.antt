@@ -1,10 +1,9 @@
 -- `nenturxo::nenturxo_slack` meets its contract: the answer for the slack, as a number, and the slack in two more.
 use mathlib.Core.Path.{refl, sym, _∙_}
-use mir.Syntax.{w64}
+use mir.Syntax.{w32, w64}
 use mir.ValLaws.{toZ-ofZ}
 use Rattle.sizes.specs.Direction.{across, upward}
 use Rattle.sizes.specs.declared.SlackAnswer.the-variants.{Slack, Refused}
-use Rattle.nenturxo.proofs.Signed.{refused-is}
 use borrow.Author.Needs.{needs}
 use Rattle.nenturxo.proofs.nenturxo_slack.Statement.{statement}
 use Rattle.nenturxo.proofs.nenturxo_slack.Tie as tie
@@ -40,7 +39,7 @@ returns-2 c =
     let refusal = c .before .before .refusal .given in
     record {
       answer = Refused (refusal .0 .0);
-      numbered = refused-is (refusal .0 .0) (c .refused .ensures);
+      numbered = toZ-ofZ w32 (c .refused .result) (search needs) ∙ c .refused .ensures;
       did = record {
         answered = sym (refusal .1) ∙ c .before .before .before .before .slack .ensures;
         left = λ way. elim way [ across ↦ refl | upward ↦ refl ];
