@@ -34,6 +34,8 @@ use Rattle.book.specs.declared.AddAnswer.{AddAnswer}
 use Rattle.book.specs.declared.AddAnswer.the-variants as add
 use Rattle.questions.specs.declared.QuestionAnswer.{QuestionAnswer}
 use Rattle.questions.specs.declared.QuestionAnswer.the-variants as question
+use Rattle.traces.specs.declared.TraceAnswer.{TraceAnswer}
+use Rattle.traces.specs.declared.TraceAnswer.the-variants as trace
 use Rattle.entering.specs.declared.RoomsAnswer.{RoomsAnswer}
 use Rattle.entering.specs.declared.RoomsAnswer.the-variants as roomsIn
 
@@ -138,3 +140,16 @@ abbrev pub groupsCode : GroupsAnswer → ℤ
 groupsCode (groups.Related side) = pos (relationNumber side false)
 groupsCode groups.Mixed = pos 4
 groupsCode (groups.Refused refusal) = refusalCode refusal
+
+-- Trace: the count of the moves, the final rooms and the final runs
+abbrev pub replayedNumber : (moves rooms runs : ℕ) → ℕ
+replayedNumber moves rooms runs = moves * 2 ^ 16 + rooms * 2 ^ 8 + runs
+
+-- of a refused move its number, the runs and the rooms before it, and its ordinal, negated
+abbrev pub refusedMoveNumber : Refusal → (ordinal rooms runs : ℕ) → ℕ
+refusedMoveNumber refusal ordinal rooms runs = numberOf refusal + runs * 2 ^ 8 + rooms * 2 ^ 16 + ordinal * 2 ^ 24
+
+abbrev pub traceCode : TraceAnswer → ℤ
+traceCode (trace.Replayed moves rooms runs) = pos (replayedNumber moves rooms runs)
+traceCode (trace.RefusedMove refusal ordinal rooms runs) = negℤ (pos (refusedMoveNumber refusal ordinal rooms runs))
+traceCode (trace.Refused refusal) = refusalCode refusal

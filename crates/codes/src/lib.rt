@@ -1,14 +1,17 @@
 // The number that each call of the C interface returns for its answer.
 ghost use mathlib.Core.Bool.{false};
+ghost use lib.IntN.{pos, negℤ};
 ghost use mathlib.Core.Path.{_≡_};
 ghost use Prim.Native.Nat.{_^_, _≤_, _<_};
 ghost use Rattle.answers.specs.Answer.{Few};
 ghost use Rattle.slicing.specs.Answer.{Few as TreeFew};
 ghost use Rattle.sizes.specs.Answer.{Few as CornersFew};
+ghost use Rattle.traces.specs.Sizes.{TraceFits};
 ghost use Rattle.codes.specs.Code.{refusalCode, roomsCode, labelsCode, tidyCode, recordCode, treeCode};
 ghost use Rattle.codes.specs.Code.{patternNumber, patternCode, relationNumber, relatedNumber, questionCode};
 ghost use Rattle.codes.specs.Code.{badRecordCode, nextCode, addCode};
 ghost use Rattle.codes.specs.Code.{cornersCode, placingCode, groupsCode};
+ghost use Rattle.codes.specs.Code.{refusedMoveNumber, traceCode};
 ghost use Rattle.codes.specs.Size.{AtMost97, LabelsAtMost97, TidyAtMost912, NextFits, AddFits};
 use answers::RecordAnswer;
 use book::AddAnswer;
@@ -27,6 +30,7 @@ use record::Refusal;
 use sizes::CornersAnswer;
 use sizes::PlacingAnswer;
 use slicing::TreeAnswer;
+use traces::TraceAnswer;
 
 // A refusal's number, negated.
 pub fn refused(refusal: Refusal) -> i32
@@ -221,5 +225,30 @@ pub fn groups_code(answer: GroupsAnswer) -> i32
         GroupsAnswer::Related(side) => side_number(side) as i32,
         GroupsAnswer::Mixed => 4,
         GroupsAnswer::Refused(refusal) => refused(refusal),
+    }
+}
+
+// The number of a refused move of a trace with its ordinal and the rooms and runs before it, negated.
+fn refused_move(refusal: Refusal, ordinal: usize, rooms: usize, runs: usize) -> i64
+    requires { ⌜ (ordinal ≤ 65535) × (rooms ≤ 255) × (runs ≤ 255) ⌝ }
+    ensures { λ r. ⌜ r ≡ negℤ (pos (refusedMoveNumber refusal ordinal rooms runs)) ⌝ }
+{
+    let with_rooms = 256 * ordinal + rooms;
+    let with_runs = 256 * with_rooms + runs;
+    let number = (256 * with_runs + refusal.number() as usize) as i64;
+    -number
+}
+
+// The number of an answer of Trace, in 64 bits.
+pub fn trace_code(answer: TraceAnswer) -> i64
+    requires { ⌜ TraceFits answer ⌝ }
+    ensures { λ r. ⌜ r ≡ traceCode answer ⌝ }
+{
+    match answer {
+        TraceAnswer::Replayed(moves, rooms, runs) => (65536 * moves + 256 * rooms + runs) as i64,
+        TraceAnswer::RefusedMove(refusal, ordinal, rooms, runs) => {
+            refused_move(refusal, ordinal, rooms, runs)
+        }
+        TraceAnswer::Refused(refusal) => refused(refusal) as i64,
     }
 }

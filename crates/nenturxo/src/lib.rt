@@ -12,9 +12,10 @@ ghost use Rattle.sizes.specs.Lists.{eachWay};
 ghost use Rattle.sizes.specs.Answer.{LowestCorners, SlackIn, placingAnswer};
 ghost use Rattle.book.specs.Summary.{held};
 ghost use Rattle.book.specs.Answer.{nextAnswer, BookAdd};
+ghost use Rattle.traces.specs.Answer.{Traced};
 ghost use Rattle.entering.specs.Answer.{slices as roomSlices, RoomsIn};
 ghost use Rattle.codes.specs.Code.{Coded, roomsCode, labelsCode, patternCode, tidyCode, recordCode, treeCode, questionCode};
-ghost use Rattle.codes.specs.Code.{nextCode, addCode, cornersCode, slackCode, placingCode, groupsCode};
+ghost use Rattle.codes.specs.Code.{nextCode, addCode, cornersCode, slackCode, placingCode, groupsCode, traceCode};
 use drawing::Room;
 use sizes::SlackAnswer;
 
@@ -193,4 +194,16 @@ pub extern "C" fn nenturxo_groups(record: &[u8], first: &[u8; 32], second: &[u8;
 {
     let answer = grouping::groups(record, first, second);
     codes::groups_code(answer)
+}
+
+// Trace: the count of the moves, the final rooms and runs in one number, with the rooms and runs after each move from the front of `states`;
+// of a refused move its number, its ordinal and the rooms and runs before it in one number negated; or another refusal's number negated, and
+// nothing written.
+#[no_mangle]
+pub extern "C" fn nenturxo_trace(trace: &[u8], states: &mut [u16]) -> i64
+    ensures { λ r. ⌜ Coded traceCode r
+        (λ answer. Traced (now (trace .entry)) (now (states .entry)) answer (now (states .exit))) ⌝ }
+{
+    let answer = replaying::trace(trace, states);
+    codes::trace_code(answer)
 }

@@ -106,7 +106,7 @@ module _ (bytes : List ℕ) (all : Bytes bytes) (r : Readable bytes) where
 
 -- ---- the record of a Baxter list of at least one label is read
 -- the walk of the same triples
-walk-same : (s t : ℕ → Triple) (k : ℕ) → ((i : ℕ) → 2 ≤ i → i ≤ suc k → s i ≡ t i) → walk s k ≡ walk t k
+pub walk-same : (s t : ℕ → Triple) (k : ℕ) → ((i : ℕ) → 2 ≤ i → i ≤ suc k → s i ≡ t i) → walk s k ≡ walk t k
 unfolding walk
 walk-same s t zero h = refl
 walk-same s t (suc k) h = λ i. andThen (walk-same s t k (λ j a b. h j a (omega arith)) i) (step (h (suc (suc k)) (omega arith) (omega arith) i))

@@ -26,11 +26,11 @@ cast-number-2 : tie.Need-cast-number-2
 cast-number-2 c = search needs
 
 sub-result : tie.Need-sub-result
-sub-result c = negated-fits (c .number .result + 256 * c .before .args .ordinal) (omega arith)
+sub-result c = negated-fits w32 (c .number .result + 256 * c .before .args .ordinal) (omega arith)
 
 returns : tie.Need-returns
 returns c =
-    toZ-ofZ w32 _ (sub-result c) ∙ negated-is (c .number .result + 256 * c .before .args .ordinal) (omega arith)
+    toZ-ofZ w32 _ (sub-result c) ∙ negated-is w32 (c .number .result + 256 * c .before .args .ordinal) (omega arith)
     ∙ ap (λ (number : ℕ). negℤ (pos (number + 256 * c .before .args .ordinal))) (c .number .ensures)
 
 pub bad-record-spec : {M : Type 1} → statement M

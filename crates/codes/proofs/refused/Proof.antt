@@ -17,11 +17,11 @@ cast-number : tie.Need-cast-number
 cast-number c = search needs
 
 sub-result : tie.Need-sub-result
-sub-result c = negated-fits (c .number .result) (omega arith)
+sub-result c = negated-fits w32 (c .number .result) (omega arith)
 
 returns : tie.Need-returns
 returns c =
-    toZ-ofZ w32 _ (sub-result c) ∙ negated-is (c .number .result) (omega arith)
+    toZ-ofZ w32 _ (sub-result c) ∙ negated-is w32 (c .number .result) (omega arith)
     ∙ ap (λ (number : ℕ). negℤ (pos number)) (c .number .ensures)
 
 pub refused-spec : {M : Type 1} → statement M
