@@ -1,6 +1,5 @@
 // The number that each call of the C interface returns for its answer.
 ghost use mathlib.Core.Bool.{false};
-ghost use lib.IntN.{pos, negℤ};
 ghost use mathlib.Core.Path.{_≡_};
 ghost use Prim.Native.Nat.{_^_, _≤_, _<_};
 ghost use Rattle.answers.specs.Answer.{Few};
@@ -11,7 +10,7 @@ ghost use Rattle.codes.specs.Code.{refusalCode, roomsCode, labelsCode, t
 ghost use Rattle.codes.specs.Code.{patternNumber, patternCode, relationNumber, relatedNumber, questionCode};
 ghost use Rattle.codes.specs.Code.{badRecordCode, nextCode, addCode};
 ghost use Rattle.codes.specs.Code.{cornersCode, placingCode, groupsCode};
-ghost use Rattle.codes.specs.Code.{refusedMoveNumber, traceCode};
+ghost use Rattle.codes.specs.Code.{replayedNumber, refusedMoveNumber, traceCode};
 ghost use Rattle.codes.specs.Size.{AtMost97, LabelsAtMost97, TidyAtMost912, NextFits, AddFits};
 use answers::RecordAnswer;
 use book::AddAnswer;
@@ -228,15 +227,23 @@ pub fn groups_code(answer: GroupsAnswer) -> i32
     }
 }
 
-// The number of a refused move of a trace with its ordinal and the rooms and runs before it, negated.
-fn refused_move(refusal: Refusal, ordinal: usize, rooms: usize, runs: usize) -> i64
+// The number of an accepted trace: its moves, and the rooms and runs at the end.
+fn replayed_number(moves: usize, rooms: usize, runs: usize) -> usize
+    requires { ⌜ (moves ≤ 65535) × (rooms ≤ 255) × (runs ≤ 255) ⌝ }
+    ensures { λ r. ⌜ (r ≡ replayedNumber moves rooms runs) × (r < 2 ^ 32) ⌝ }
+{
+    let moves_and_rooms = 256 * moves + rooms;
+    256 * moves_and_rooms + runs
+}
+
+// The number of a refused move of a trace, with its ordinal and the rooms and runs before it.
+fn refused_move_number(refusal: Refusal, ordinal: usize, rooms: usize, runs: usize) -> usize
     requires { ⌜ (ordinal ≤ 65535) × (rooms ≤ 255) × (runs ≤ 255) ⌝ }
-    ensures { λ r. ⌜ r ≡ negℤ (pos (refusedMoveNumber refusal ordinal rooms runs)) ⌝ }
+    ensures { λ r. ⌜ (r ≡ refusedMoveNumber refusal ordinal rooms runs) × (r < 2 ^ 40) ⌝ }
 {
     let with_rooms = 256 * ordinal + rooms;
     let with_runs = 256 * with_rooms + runs;
-    let number = (256 * with_runs + refusal.number() as usize) as i64;
-    -number
+    256 * with_runs + refusal.number() as usize
 }
 
 // The number of an answer of Trace, in 64 bits.
@@ -245,9 +252,10 @@ pub fn trace_code(answer: TraceAnswer) -> i64
     ensures { λ r. ⌜ r ≡ traceCode answer ⌝ }
 {
     match answer {
-        TraceAnswer::Replayed(moves, rooms, runs) => (65536 * moves + 256 * rooms + runs) as i64,
+        TraceAnswer::Replayed(moves, rooms, runs) => replayed_number(moves, rooms, runs) as i64,
         TraceAnswer::RefusedMove(refusal, ordinal, rooms, runs) => {
-            refused_move(refusal, ordinal, rooms, runs)
+            let number = refused_move_number(refusal, ordinal, rooms, runs) as i64;
+            -number
         }
         TraceAnswer::Refused(refusal) => refused(refusal) as i64,
     }

@@ -1,51 +1,36 @@
 -- `codes::trace_code` meets its contract: by the contract moves and ordinals have 16 bits and rooms and runs 8, so the numbers fit.
-use mathlib.Core.Path.{_≡_, ap, subst, _∙_}
-use Prim.Native.Nat.{_+_, _*_, _≤_}
+use mathlib.Core.Path.{ap, subst, _∙_}
+use Prim.Native.Nat.{ℕ}
 use native.Mathlib.Omega.{arith}
-use lib.IntN.{pos}
+use lib.IntN.{pos, negℤ}
 use mir.Syntax.{w64}
 use mir.ValLaws.{toZ-ofZ}
-use Rattle.traces.specs.Sizes.{TraceFits}
-use Rattle.codes.specs.Code.{replayedNumber}
-use Rattle.codes.proofs.Signed.{widened-fits, widened-is}
 use borrow.Author.Needs.{needs}
+use Rattle.traces.specs.Sizes.{TraceFits}
+use Rattle.codes.proofs.Signed.{negated-is, negated-fits, widened-fits, widened-is}
 use Rattle.codes.proofs.trace_code.Statement.{statement}
 use Rattle.codes.proofs.trace_code.Tie as tie
-use Rattle.codes.proofs.trace_code.Reads as reads
-use Rattle.codes.proofs.trace_code.Lts as lts
-use Rattle.codes.proofs.refused.Reads as refused-reads
-use Rattle.codes.proofs.refused_move.Reads as refused-move-reads
-
-abbrev Ended : Type 0
-Ended = lts.After-known-told (refused-move-reads.Asked, refused-move-reads.Learnt, refused-reads.Asked, refused-reads.Learnt) reads.Pre reads.Post
-
--- the numbers of an accepted trace are small
-small : (c : Ended) → let given = c .before .answer .given .0 in (given .0 ≤ 65535) × (given .1 .0 ≤ 255) × (given .1 .1 .0 ≤ 255)
-small c = subst TraceFits (c .before .answer .given .1) (c .before .before .before .pre)
 
 enum-known-answer : tie.Need-enum-known-answer
 enum-known-answer c = search needs
 
-mul-result : tie.Need-mul-result
-mul-result c = record { fits = omega (arith, small c) }
-
-mul-result-2 : tie.Need-mul-result-2
-mul-result-2 c = record { fits = omega (arith, small c) }
-
-add-result : tie.Need-add-result
-add-result c = record { fits = omega (arith, small c) }
-
-add-result-2 : tie.Need-add-result-2
-add-result-2 c = record { fits = omega (arith, small c) }
+replayed-number-requires : tie.Need-replayed-number-requires
+replayed-number-requires c κs = subst TraceFits (c .before .answer .given .1) (c .before .before .before .pre)
 
 cast-result : tie.Need-cast-result
-cast-result c = record { sfits = omega (arith, small c) }
+cast-result c = search needs
 
 enum-known-answer-2 : tie.Need-enum-known-answer-2
 enum-known-answer-2 c = search needs
 
-refused-move-requires : tie.Need-refused-move-requires
-refused-move-requires c κs = subst TraceFits (c .before .answer2 .given .1) (c .before .before .before .pre)
+refused-move-number-requires : tie.Need-refused-move-number-requires
+refused-move-number-requires c κs = subst TraceFits (c .before .answer2 .given .1) (c .before .before .before .pre)
+
+cast-number : tie.Need-cast-number
+cast-number c = search needs
+
+sub-result : tie.Need-sub-result
+sub-result c = negated-fits w64 (c .refused-move-number .result) (omega (arith, c .refused-move-number .ensures .1))
 
 enum-known-answer-3 : tie.Need-enum-known-answer-3
 enum-known-answer-3 c = search needs
@@ -57,13 +42,14 @@ cast-result-2 : tie.Need-cast-result-2
 cast-result-2 c = widened-fits {number = c .refused .result} (search needs)
 
 returns : tie.Need-returns
-returns c =
-    let given = c .before .answer .given .0 in
-    let same : 65536 * given .0 + 256 * given .1 .0 + given .1 .1 .0 ≡ replayedNumber (given .0) (given .1 .0) (given .1 .1 .0) = omega arith in
-    rw (c .before .answer .given .1) (toZ-ofZ w64 _ (cast-result c) ∙ ap pos same)
+returns c = rw (c .before .before .answer .given .1) (toZ-ofZ w64 _ (cast-result c) ∙ ap pos (c .replayed-number .ensures .0))
 
 returns-2 : tie.Need-returns-2
-returns-2 c = rw (c .before .before .answer2 .given .1) (toZ-ofZ w64 (c .refused-move .result) (search needs) ∙ c .refused-move .ensures)
+returns-2 c =
+    let number = c .refused-move-number in
+    rw (c .before .before .answer2 .given .1)
+    (toZ-ofZ w64 _ (sub-result c) ∙ negated-is w64 (number .result) (omega (arith, number .ensures .1))
+    ∙ ap (λ (n : ℕ). negℤ (pos n)) (number .ensures .0))
 
 returns-3 : tie.Need-returns-3
 returns-3 c = rw (c .before .before .answer3 .given .1) (widened-is {number = c .refused .result} (search needs) ∙ c .refused .ensures)
@@ -73,13 +59,12 @@ trace-code-spec =
     tie.close
     (tie.spec
     enum-known-answer
-    mul-result
-    mul-result-2
-    add-result
-    add-result-2
+    replayed-number-requires
     cast-result
     enum-known-answer-2
-    refused-move-requires
+    refused-move-number-requires
+    cast-number
+    sub-result
     enum-known-answer-3
     refused-requires
     cast-result-2
