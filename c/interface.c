@@ -1445,6 +1445,183 @@ static void test_groups(void) {
     test_records_with_groups();
 }
 
+/* ---- Traces */
+
+/* States, and one before them that counts for nothing. */
+typedef struct {
+    uint16_t before;
+    uint16_t entries[12];
+} few_states;
+
+static int64_t trace(const uint8_t *moves, size_t length, size_t capacity, few_states *out) {
+    memset(out, UNTOUCHED, sizeof *out);
+    return nenturxo_trace(moves, length, out->entries, capacity);
+}
+
+/* The trace gives so many moves and these rooms and runs, and writes the entries
+ * and no other, in a slice that is just long enough and in a longer one. One
+ * entry less is too short. */
+static void gives_trace(const uint8_t *moves, size_t length, const uint16_t *entries,
+                        size_t count, int rooms, int runs) {
+    const int64_t result = (int64_t)count * 65536 + rooms * 256 + runs;
+    few_states out;
+    size_t capacity;
+
+    for (capacity = count; capacity <= COUNT(out.entries); capacity++) {
+        CHECK(trace(moves, length, capacity, &out) == result);
+        CHECK(all_untouched(&out.before, sizeof out.before));
+        CHECK(memcmp(out.entries, entries, count * sizeof *entries) == 0);
+        CHECK(all_untouched(out.entries + count, sizeof out.entries - count * sizeof *entries));
+    }
+    if (count > 0) {
+        CHECK(trace(moves, length, count - 1, &out) == -NENTURXO_SLICE_SHORT);
+        CHECK(all_untouched(&out, sizeof out));
+    }
+    CHECK(result >> 16 == (int64_t)count && (result >> 8 & 255) == rooms);
+    CHECK((result & 255) == runs);
+}
+
+/* The trace is refused so, whatever the slice, and nothing is written. */
+static void refuses_trace(const uint8_t *moves, size_t length, int refusal, int ordinal,
+                          int rooms, int runs) {
+    few_states out;
+    size_t capacity;
+
+    for (capacity = 0; capacity <= COUNT(out.entries); capacity++) {
+        const int64_t code = trace(moves, length, capacity, &out);
+        CHECK(code == -(refusal + runs * 256 + rooms * 65536 + (int64_t)ordinal * 16777216));
+        CHECK(NENTURXO_TRACE_REFUSAL(code) == refusal);
+        CHECK(NENTURXO_TRACE_RUNS(code) == runs);
+        CHECK(NENTURXO_TRACE_ROOMS(code) == rooms);
+        CHECK(NENTURXO_TRACE_ORDINAL(code) == ordinal);
+        CHECK(all_untouched(&out, sizeof out));
+    }
+}
+
+static void test_replay(void) {
+    const uint8_t header[] = {1, 2, 1, 1, 2, 1, 1, 1, 6, 3};
+    const uint16_t of_header[] = {513, 770, 513, 770, 1025, 1025};
+    const uint8_t claims[] = {3, 3}, one_room[] = {1, 5, 2, 3, 1, 0};
+    const uint16_t of_claims[] = {257, 257}, of_one_room[] = {513, 257, 257, 514};
+    /* the sheet's pinwheel, 001 100 010 111, and a claim */
+    const uint8_t five[] = {1, 1, 1, 4, 1, 2, 1, 7, 3};
+    const uint16_t of_five[] = {514, 770, 1026, 1281, 1281};
+    uint8_t moved[COUNT(header) + 8];
+    size_t i;
+
+    gives_trace(header, COUNT(header), of_header, COUNT(of_header), 4, 1);
+    gives_trace(header, 7, of_header, 4, 3, 2);
+    gives_trace(header, 0, of_header, 0, 1, 1);
+    gives_trace(claims, COUNT(claims), of_claims, COUNT(of_claims), 1, 1);
+    gives_trace(one_room, COUNT(one_room), of_one_room, COUNT(of_one_room), 2, 2);
+    gives_trace(five, COUNT(five), of_five, COUNT(of_five), 5, 1);
+    /* at every address */
+    for (i = 0; i < 8; i++) {
+        memcpy(moved + i, header, sizeof header);
+        gives_trace(moved + i, COUNT(header), of_header, COUNT(of_header), 4, 1);
+    }
+}
+
+/* Each cause of a refused move, as the first and as a later one, and what follows
+ * it counts for nothing. */
+static void test_refused_moves(void) {
+    const uint8_t no_kind[] = {0, 3}, kind_4[] = {4}, no_body[] = {3, 1}, above_7[] = {1, 0, 1, 8};
+    const uint8_t only_room[] = {2, 0}, none_left[] = {1, 2, 2, 2, 3};
+    const uint8_t below[] = {1, 7}, above[] = {1, 0, 1, 4, 9};
+    const uint8_t two_runs[] = {1, 0, 3}, again_two[] = {1, 0, 1, 7, 3, 2, 3, 0};
+    /* a triple above 7 whose low bits need a run */
+    const uint8_t above_7_needs[] = {1, 15};
+
+    CHECK(NENTURXO_BAD_MOVE == 28 && NENTURXO_ONLY_ROOM == 29);
+    refuses_trace(no_kind, 2, NENTURXO_BAD_MOVE, 1, 1, 1);
+    refuses_trace(kind_4, 1, NENTURXO_BAD_MOVE, 1, 1, 1);
+    refuses_trace(no_body, 2, NENTURXO_BAD_MOVE, 2, 1, 1);
+    refuses_trace(above_7, 4, NENTURXO_BAD_MOVE, 2, 2, 2);
+    refuses_trace(above_7_needs, 2, NENTURXO_BAD_MOVE, 1, 1, 1);
+    refuses_trace(only_room, 2, NENTURXO_ONLY_ROOM, 1, 1, 1);
+    refuses_trace(none_left, 5, NENTURXO_ONLY_ROOM, 3, 1, 1);
+    refuses_trace(below, 2, NENTURXO_RUN_MISSING, 1, 1, 1);
+    refuses_trace(above, 5, NENTURXO_RUN_MISSING, 2, 2, 2);
+    refuses_trace(two_runs, 3, NENTURXO_RUNS_LEFT, 2, 2, 2);
+    refuses_trace(again_two, 8, NENTURXO_RUNS_LEFT, 5, 2, 2);
+}
+
+/* As many moves as there can be, and some more. */
+static uint8_t long_trace[NENTURXO_TRACE_LENGTH + 3];
+static uint16_t long_states[NENTURXO_TRACE_LENGTH + 1];
+
+/* Makes a trace: so many rooms, all added with the same triple, and then these
+ * bytes. Gives its length. */
+static size_t rooms_and(int rooms, int triple, const uint8_t *more, size_t length) {
+    int i;
+    for (i = 1; i < rooms; i++) {
+        long_trace[2 * i - 2] = 1;
+        long_trace[2 * i - 1] = (uint8_t)triple;
+    }
+    memcpy(long_trace + 2 * (rooms - 1), more, length);
+    return 2 * (size_t)(rooms - 1) + length;
+}
+
+/* 255 rooms and no more: 1 comes after 28 and before 12, whatever the triple. */
+static void test_256th_room(void) {
+    const uint8_t bad[] = {1, 8}, claim[] = {3}, instead[] = {2, 1, 5, 3};
+    const int64_t full = 254 * 65536 + 255 * 256;
+    int triple;
+
+    CHECK(nenturxo_trace(long_trace, rooms_and(255, 2, bad, 0), long_states, 254) == full + 1);
+    CHECK(long_states[0] == 513 && long_states[253] == 255 * 256 + 1);
+    CHECK(nenturxo_trace(long_trace, rooms_and(255, 0, bad, 0), long_states, 254) == full + 255);
+    CHECK(long_states[0] == 514 && long_states[253] == 255 * 256 + 255);
+    CHECK(nenturxo_trace(long_trace, rooms_and(255, 2, instead, 4), long_states, 257) ==
+          257 * 65536 + 255 * 256 + 1);
+    for (triple = 0; triple < 8; triple++) {
+        const uint8_t one_more[] = {1, (uint8_t)triple};
+        const size_t length = rooms_and(255, 2, one_more, 2);
+        refuses_trace(long_trace, length, NENTURXO_LIST_LENGTH, 255, 255, 1);
+    }
+    refuses_trace(long_trace, rooms_and(255, 2, bad, 2), NENTURXO_BAD_MOVE, 255, 255, 1);
+    refuses_trace(long_trace, rooms_and(255, 2, bad, 1), NENTURXO_BAD_MOVE, 255, 255, 1);
+    refuses_trace(long_trace, rooms_and(255, 1, claim, 1), NENTURXO_RUNS_LEFT, 255, 255, 255);
+}
+
+/* 65,535 bytes and no more: 21 comes before all moves and before the slice. */
+static void test_long_traces(void) {
+    const size_t most = NENTURXO_TRACE_LENGTH;
+    const int64_t all = (int64_t)NENTURXO_TRACE_LENGTH * 65536 + 257;
+    const int64_t last = (int64_t)NENTURXO_TRACE_LENGTH * 16777216 + 65536 + 256;
+    size_t i;
+
+    memset(long_trace, 3, sizeof long_trace);
+    memset(long_states, UNTOUCHED, sizeof long_states);
+    CHECK(nenturxo_trace(long_trace, most, long_states, most - 1) == -NENTURXO_SLICE_SHORT);
+    CHECK(nenturxo_trace(long_trace, most + 1, long_states, most + 1) == -NENTURXO_BOOK_LENGTH);
+    CHECK(nenturxo_trace(long_trace, most + 3, long_states, 0) == -NENTURXO_BOOK_LENGTH);
+    long_trace[0] = 0;
+    CHECK(nenturxo_trace(long_trace, most + 1, long_states, most + 1) == -NENTURXO_BOOK_LENGTH);
+    long_trace[0] = 3;
+    /* the largest ordinal */
+    long_trace[most - 1] = 2;
+    CHECK(nenturxo_trace(long_trace, most, long_states, most) == -(NENTURXO_ONLY_ROOM + last));
+    long_trace[most - 1] = 1;
+    CHECK(nenturxo_trace(long_trace, most, long_states, most) == -(NENTURXO_BAD_MOVE + last));
+    CHECK(NENTURXO_TRACE_ORDINAL(-(NENTURXO_BAD_MOVE + last)) == NENTURXO_TRACE_LENGTH);
+    CHECK(all_untouched(long_states, sizeof long_states));
+
+    long_trace[most - 1] = 3;
+    CHECK(nenturxo_trace(long_trace, most, long_states, most + 1) == all);
+    for (i = 0; i < most && long_states[i] == 257; i++) {
+    }
+    CHECK(i == most);
+    CHECK(all_untouched(long_states + most, sizeof *long_states));
+}
+
+static void test_traces(void) {
+    test_replay();
+    test_refused_moves();
+    test_256th_room();
+    test_long_traces();
+}
+
 int main(void) {
     test_labels_in();
     test_rooms_in();
@@ -1456,6 +1633,7 @@ int main(void) {
     test_books();
     test_sizes();
     test_groups();
+    test_traces();
     CHECK(sum(never_written, sizeof never_written) == 0);
     printf("%d checks of the C interface, %d failed\n", checks, failures);
     return failures == 0 ? 0 : 1;

@@ -8,11 +8,11 @@
  * takes each slice as a pointer to its first element and its length in
  * elements, and each group as a pointer to its 32 bytes. It gives one number
  * back: at least 0 the result, below 0 a refusal's number negated (enum
- * nenturxo_refusal), which the calls on books give with more to it. A refused
- * call writes nothing. A call that is not refused writes from the front of its
- * output slices, or from the place that is named at it, and leaves the rest of
- * each as it was. A call that has further numbers to give writes each through a
- * pointer of its own.
+ * nenturxo_refusal), which the calls on books and on traces give with more to
+ * it. A refused call writes nothing. A call that is not refused writes from the
+ * front of its output slices, or from the place that is named at it, and leaves
+ * the rest of each as it was. A call that has further numbers to give writes
+ * each through a pointer of its own.
  *
  * No call allocates, keeps a pointer, or uses anything but its arguments, so
  * calls may run at the same time in any number of threads. What the caller
@@ -43,6 +43,10 @@ extern "C" {
 /* The longest used part of a book. */
 #define NENTURXO_BOOK_CAPACITY 65535
 
+/* The longest trace that nenturxo_trace reads. An output slice of so many entries
+ * is long enough for every trace. */
+#define NENTURXO_TRACE_LENGTH 65535
+
 /* The bytes of a group of positions: always so many, for every record. */
 #define NENTURXO_GROUP_LENGTH 32
 
@@ -69,13 +73,15 @@ enum nenturxo_refusal {
     NENTURXO_TEXT_FORM = 18,       /* text breaks the form or is longer than 4,096 bytes */
     NENTURXO_NOT_SLICING = 19,     /* the plan is not slicing */
     NENTURXO_NAME_TWICE = 20,      /* one nonzero name on two rooms */
-    NENTURXO_BOOK_LENGTH = 21,     /* used part of a book is or would become longer than 65,535 bytes */
+    NENTURXO_BOOK_LENGTH = 21,     /* used part of a book is or would become longer than 65,535 bytes, or a trace is */
     NENTURXO_PLACE_OUTSIDE = 22,   /* used length beyond the lent slice or a place beyond the used length */
     NENTURXO_SUMMARY_DIFFERS = 23, /* summary is not the book's */
     NENTURXO_LENGTH_DIFFERS = 24,  /* a list whose length is not n */
     NENTURXO_ZERO_SIZE = 25,       /* a size of 0 */
     NENTURXO_RELATION_BROKEN = 26, /* a placing that breaks a relation */
-    NENTURXO_EMPTY_GROUP = 27      /* a group is empty */
+    NENTURXO_EMPTY_GROUP = 27,     /* a group is empty */
+    NENTURXO_BAD_MOVE = 28,        /* a move of an unknown kind, without its body or with a triple above 7 */
+    NENTURXO_ONLY_ROOM = 29        /* the only room is taken away */
 };
 
 /* A bad record in a book is refused by its own number together with its
@@ -84,6 +90,19 @@ enum nenturxo_refusal {
  * nenturxo_refusal, and the ordinal, 0 if no record in the book is the cause. */
 #define NENTURXO_BOOK_REFUSAL(r) (-(r) % 256)
 #define NENTURXO_BOOK_ORDINAL(r) (-(r) / 256)
+
+/* A refused move of a trace is told together with its ordinal, from 1, and with
+ * the rooms and runs before it, as
+ *
+ *     -(number + runs * 2^8 + rooms * 2^16 + ordinal * 2^24)
+ *
+ * Of what nenturxo_trace gives below 0, call it r, these are the number, an enum
+ * nenturxo_refusal, the runs, the rooms and the ordinal. The last three are 0 if
+ * no move is the cause. */
+#define NENTURXO_TRACE_REFUSAL(r) (-(r) % 256)
+#define NENTURXO_TRACE_RUNS(r) (-(r) / 256 % 256)
+#define NENTURXO_TRACE_ROOMS(r) (-(r) / 65536 % 256)
+#define NENTURXO_TRACE_ORDINAL(r) (-(r) / 16777216)
 
 /* On which side of another room a room stands: the two low bits of what
  * nenturxo_question gives, and what nenturxo_groups gives for whole groups. */
@@ -398,6 +417,45 @@ int32_t nenturxo_placing_in(const uint8_t *record, size_t length,
 int32_t nenturxo_groups(const uint8_t *record, size_t length,
                         const uint8_t first[NENTURXO_GROUP_LENGTH],
                         const uint8_t second[NENTURXO_GROUP_LENGTH]);
+
+/* Trace: replays the moves by which a plan was built, room by room.
+ *
+ * trace      the moves one after another: at most 65,535 bytes
+ * states     gets an entry for each move, 256 * rooms + runs as they are after
+ *            it: as many as there are moves, so 65,535 are always enough
+ *
+ * The plan starts with one room. These are the moves, by their bytes:
+ *
+ *     01 and a triple   adds a room. The triple is a number from 0 to 7, its
+ *                       first bit worth 4
+ *     02                takes the newest room away
+ *     03                claims that one run is left, and changes nothing
+ *
+ * The runs are those of consecutive labels among the rooms: the current one, and
+ * those below it and above it. After each move rooms and runs are the ones that
+ * the triples still present give from the start, whatever was taken away
+ * meanwhile. To add the triples of a record one after another, and then to claim,
+ * is accepted exactly if the record is.
+ *
+ * Gives the count of the moves and the final rooms and runs, in one number:
+ *
+ *     moves * 2^16 + rooms * 2^8 + runs
+ *
+ * Of this number, call it t, the moves are t >> 16, the rooms t >> 8 & 255, and
+ * the runs t & 255. An empty trace gives 257: no move, one room, one run. Of an
+ * entry e the rooms are e >> 8 and the runs e & 255.
+ *
+ * The trace 01 02 01 01 02 01 01 01 06 03 adds 010 and 001, takes the second one
+ * away and adds it again, adds 110 and makes a claim. It gives 394241, for 6
+ * moves, 4 rooms and 1 run, and states gets 513 770 513 770 1025 1025.
+ *
+ * The first refused move ends the replay, and is told as NENTURXO_TRACE_REFUSAL
+ * and the others above read it. Refusals, in this order, after which states is as
+ * it was: 21 as -number, before all moves; of a move 28, then 1 for a room past
+ * 255 or 29, then 12 for its triple, or 13 for a claim; after the last move 15 as
+ * -number, if states has fewer entries than there are moves. */
+int64_t nenturxo_trace(const uint8_t *trace, size_t length,
+                       uint16_t *states, size_t capacity);
 
 #ifdef __cplusplus
 }

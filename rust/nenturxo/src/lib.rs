@@ -22,6 +22,7 @@ mod room;
 mod slack;
 #[allow(unsafe_code)]
 mod sys;
+mod trace;
 
 pub use book::{BookError, Summary};
 pub use pattern::{Condition, Pattern};
@@ -29,6 +30,7 @@ pub use refusal::Refusal;
 pub use relation::{Relation, Side};
 pub use room::Room;
 pub use slack::Slack;
+pub use trace::{RefusedMove, TraceError, Traced};
 
 /// The length of the longest record, that of 255 rooms.
 pub const RECORD_CAPACITY: usize = 97;
@@ -49,6 +51,10 @@ pub const TREE_CAPACITY: usize = 763;
 
 /// The length of the longest used part of a book.
 pub const BOOK_CAPACITY: usize = 65_535;
+
+/// The length of the longest trace that [`trace()`] reads. A slice of so many
+/// entries is long enough for every trace.
+pub const TRACE_LENGTH: usize = 65_535;
 
 /// Labels in: writes the record of a label list to the front of `record` and
 /// gives its length. The rest of `record` keeps its bytes.
@@ -645,6 +651,64 @@ pub fn groups(record: &[u8], first: &[u8; 32], second: &[u8; 32]) -> Result<Opti
         return Err(Refusal::from_code(code));
     }
     Ok(Side::from_code(code))
+}
+
+/// Trace: replays the moves of a trace over a plan that starts with one room, and
+/// gives how many moves there are and the rooms and runs that they leave. After
+/// each move these are written, as 256 × rooms + runs, to the front of `states`,
+/// one entry a move. The rest of `states` keeps its entries.
+///
+/// A trace is moves one after another, at most [`TRACE_LENGTH`] bytes:
+///
+/// - The byte 1 and then a triple, as a number from 0 to 7 with the first bit
+///   worth 4, adds a room.
+/// - The byte 2 takes the newest room away.
+/// - The byte 3 claims that one run is left, and changes nothing.
+///
+/// The runs are those of the labels so far: the current one, those below it and
+/// those above. Rooms and runs after a move are the ones that the triples still
+/// present give from the start. A trace that adds the triples of a record, in
+/// order, and ends with a claim is accepted exactly if the record is.
+///
+/// An empty trace has 0 moves, and leaves one room and one run.
+///
+/// ```
+/// use nenturxo::{trace, Refusal, TraceError, Traced};
+///
+/// // 010 and 001 are added. The second one is taken away and added again. Then
+/// // comes 110, and the claim.
+/// let mut states = [0; 6];
+/// let answer = trace(&[1, 2, 1, 1, 2, 1, 1, 1, 6, 3], &mut states)?;
+/// assert_eq!(answer, Traced { moves: 6, rooms: 4, runs: 1 });
+/// assert_eq!(states, [513, 770, 513, 770, 1025, 1025]);
+/// assert_eq!(states[1].to_be_bytes(), [3, 2]);
+///
+/// // A room is added and taken away, and then the only one that is left.
+/// let refused = trace(&[1, 2, 2, 2], &mut states).unwrap_err();
+/// assert_eq!(refused.error, Refusal::ONLY_ROOM);
+/// assert_eq!(refused.at.map(|at| at.ordinal), Some(3));
+///
+/// // Two moves, and one entry.
+/// let refused = trace(&[3, 3], &mut [0]).unwrap_err();
+/// assert_eq!(refused, TraceError { error: Refusal::SLICE_SHORT, at: None });
+/// # Ok::<(), TraceError>(())
+/// ```
+///
+/// # Errors
+///
+/// The first of these that holds, and `states` is as it was:
+/// [21](Refusal::BOOK_LENGTH) if the trace is too long, without a move; of the
+/// first refused move, with its ordinal and the rooms and runs before it,
+/// [28](Refusal::BAD_MOVE), [1](Refusal::LIST_LENGTH) for a room past 255 or
+/// [29](Refusal::ONLY_ROOM), and then [12](Refusal::RUN_MISSING), or
+/// [13](Refusal::RUNS_LEFT) for a claim; [15](Refusal::SLICE_SHORT) if `states`
+/// has fewer entries than there are moves, without a move.
+pub fn trace(trace: &[u8], states: &mut [u16]) -> Result<Traced, TraceError> {
+    let code = sys::trace(trace, states);
+    if code < 0 {
+        return Err(TraceError::from_code(code));
+    }
+    Ok(Traced::from_code(code))
 }
 
 /// The result of a call on a book that a code stands for.

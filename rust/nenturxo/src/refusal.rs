@@ -60,7 +60,8 @@ impl Refusal {
     pub const NOT_SLICING: Self = Self(19);
     /// 20: one nonzero name on two rooms
     pub const NAME_TWICE: Self = Self(20);
-    /// 21: used part of a book is or would become longer than 65,535 bytes
+    /// 21: used part of a book is or would become longer than 65,535 bytes, or a
+    /// trace is
     pub const BOOK_LENGTH: Self = Self(21);
     /// 22: used length beyond the lent slice or a place beyond the used length
     pub const PLACE_OUTSIDE: Self = Self(22);
@@ -74,6 +75,10 @@ impl Refusal {
     pub const RELATION_BROKEN: Self = Self(26);
     /// 27: a group is empty
     pub const EMPTY_GROUP: Self = Self(27);
+    /// 28: a move of an unknown kind, without its body or with a triple above 7
+    pub const BAD_MOVE: Self = Self(28);
+    /// 29: the only room is taken away
+    pub const ONLY_ROOM: Self = Self(29);
 
     /// The refusal that a code below 0 stands for, be it long or not. A
     /// refusal's number is small.
@@ -116,7 +121,9 @@ impl Refusal {
             Self::TEXT_FORM => "text breaks the form or is longer than 4,096 bytes",
             Self::NOT_SLICING => "the plan is not slicing",
             Self::NAME_TWICE => "one nonzero name on two rooms",
-            Self::BOOK_LENGTH => "used part of a book is or would become longer than 65,535 bytes",
+            Self::BOOK_LENGTH => {
+                "used part of a book is or would become longer than 65,535 bytes, or a trace is"
+            }
             Self::PLACE_OUTSIDE => {
                 "used length beyond the lent slice or a place beyond the used length"
             }
@@ -125,6 +132,10 @@ impl Refusal {
             Self::ZERO_SIZE => "a size of 0",
             Self::RELATION_BROKEN => "a placing that breaks a relation",
             Self::EMPTY_GROUP => "a group is empty",
+            Self::BAD_MOVE => {
+                "a move of an unknown kind, without its body or with a triple above 7"
+            }
+            Self::ONLY_ROOM => "the only room is taken away",
             // The library has no other numbers.
             _ => "not in the table",
         }

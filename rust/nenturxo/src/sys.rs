@@ -109,6 +109,13 @@ mod c {
             first: *const u8,
             second: *const u8,
         ) -> Code;
+
+        pub fn nenturxo_trace(
+            trace: *const u8,
+            n: usize,
+            states: *mut u16,
+            capacity: usize,
+        ) -> LongCode;
     }
 }
 
@@ -326,6 +333,21 @@ pub fn groups(record: &[u8], first: &[u8; 32], second: &[u8; 32]) -> Code {
             record.len(),
             first.as_ptr(),
             second.as_ptr(),
+        )
+    }
+}
+
+/// `nenturxo_trace` on two slices.
+pub fn trace(trace: &[u8], states: &mut [u16]) -> LongCode {
+    // SAFETY: both pointers are good for as many elements as the lengths beside
+    // them say, the second one for writing too, and as one of the two slices is
+    // borrowed mutably they do not overlap. The call keeps no pointer.
+    unsafe {
+        c::nenturxo_trace(
+            trace.as_ptr(),
+            trace.len(),
+            states.as_mut_ptr(),
+            states.len(),
         )
     }
 }
