@@ -7,7 +7,7 @@ use crate::outputs::{Drawing, Numbers};
 use crate::room_list::RoomList;
 use crate::sizes::{Corners, SizedPlan};
 use crate::timing::{one_turn, quickest, quickest_of_three, Times};
-use nenturxo::{RECORD_CAPACITY, TIDY_CAPACITY, TREE_CAPACITY};
+use nenturxo::{RECORD_CAPACITY, TIDY_CAPACITY, TRACE_LENGTH, TREE_CAPACITY};
 use reference::fast;
 
 /// A call by name.
@@ -157,6 +157,12 @@ pub const GROUPS: Call = Call {
     sheet: |cases| one_turn(cases, |case| case.grouped.by(reference::groups)),
 };
 
+pub const TRACE: Call = Call {
+    name: "Trace",
+    times: |cases, calls| trace(cases, calls, |case| &case.trace.bytes),
+    sheet: |cases| trace_by_sheet(cases, |case| &case.trace.bytes),
+};
+
 /// The times of so many calls of "Rooms in" on the lists of cases, accepted or
 /// refused.
 pub fn rooms_in<T>(cases: &[T], calls: usize, list_of: impl Fn(&T) -> &RoomList) -> Times {
@@ -281,4 +287,21 @@ pub fn groups<T>(cases: &[T], calls: usize, plan_of: impl Fn(&T) -> &GroupedPlan
         |case| plan_of(case).by_library(),
         |case| plan_of(case).by(fast::groups),
     )
+}
+
+/// The times of so many calls of "Trace" on the traces of cases.
+pub fn trace<T>(cases: &[T], calls: usize, trace_of: impl Fn(&T) -> &[u8]) -> Times {
+    let [mut states, mut same] = [vec![0; TRACE_LENGTH], vec![0; TRACE_LENGTH]];
+    quickest(
+        cases,
+        calls,
+        |case| nenturxo::trace(trace_of(case), &mut states),
+        |case| fast::trace(trace_of(case), &mut same),
+    )
+}
+
+/// The time of the version of "Trace" that is written straight from the sheet.
+pub fn trace_by_sheet<T>(cases: &[T], trace_of: impl Fn(&T) -> &[u8]) -> f64 {
+    let mut states = vec![0; TRACE_LENGTH];
+    one_turn(cases, |case| reference::trace(trace_of(case), &mut states))
 }

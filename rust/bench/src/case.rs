@@ -4,11 +4,12 @@ use crate::groups::GroupedPlan;
 use crate::outputs::Drawing;
 use crate::room_list::RoomList;
 use crate::sizes::SizedPlan;
-use crate::{lists, shapes, texts};
+use crate::{lists, shapes, texts, traces};
 use compare::{of_library, Floorplan};
 use reference::cases::names::random_names;
 use reference::cases::slicing::SlicingPlan;
 use reference::cases::text::mixed_text;
+use reference::cases::trace::Draft;
 use reference::cases::walk::random_list;
 use reference::cases::Random;
 use reference::Numbering;
@@ -34,6 +35,8 @@ pub struct Case {
     pub sized: SizedPlan,
     /// The plan with two related groups of its rooms.
     pub grouped: GroupedPlan,
+    /// The trace that adds the plan's rooms and ends with a claim.
+    pub trace: Draft,
     /// Two positions to ask for.
     pub first: u8,
     pub second: u8,
@@ -59,6 +62,7 @@ impl Case {
             barred: lists::random_barred(n, &mut random.clone()),
             sized: SizedPlan::random(&walked, &mut random.clone()),
             grouped: GroupedPlan::related(&walked, &mut random.clone()),
+            trace: traces::of_plan(&walked),
             record: walked.record(),
             labels: walked.labels,
             list: RoomList::new(plan.rooms()),
@@ -81,6 +85,7 @@ impl Case {
         self.sized.check();
         let side = self.grouped.answer();
         assert!(matches!(side, Ok(Some(_))), "{:02X?}", self.record);
+        traces::check(&self.trace);
     }
 
     fn check_labels_in(&self) {

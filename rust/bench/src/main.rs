@@ -16,12 +16,13 @@ mod shapes;
 mod sizes;
 mod texts;
 mod timing;
+mod traces;
 
 use books::BOOKS;
 use calls::{
-    book_add, book_next, groups, lowest_corners, pattern, placing_in, rooms_in, slack, tidy, tree,
-    Call, BOOK_NEXT, GROUPS, LABELS_IN, LOWEST_CORNERS, PATTERN, PLACING_IN, QUESTION, RECORD_IN,
-    ROOMS_IN, SLACK, TIDY, TREE,
+    book_add, book_next, groups, lowest_corners, pattern, placing_in, rooms_in, slack, tidy, trace,
+    trace_by_sheet, tree, Call, BOOK_NEXT, GROUPS, LABELS_IN, LOWEST_CORNERS, PATTERN, PLACING_IN,
+    QUESTION, RECORD_IN, ROOMS_IN, SLACK, TIDY, TRACE, TREE,
 };
 use case::Case;
 use groups::PAIRS;
@@ -34,9 +35,10 @@ use shapes::{Shape, SHAPES};
 use sizes::{PLACINGS, SIZED_PLANS};
 use texts::{Kind, BROKEN_AT_THE_END, MANY_HANDS, TIDY_FORM, TOO_MANY_NUMBERS};
 use timing::{calls_in_a_round, one_turn, Times, ROUNDS};
+use traces::TRACES;
 
 /// The calls.
-const EVERY_CALL: [Call; 12] = [
+const EVERY_CALL: [Call; 13] = [
     LABELS_IN,
     RECORD_IN,
     ROOMS_IN,
@@ -49,6 +51,7 @@ const EVERY_CALL: [Call; 12] = [
     SLACK,
     PLACING_IN,
     GROUPS,
+    TRACE,
 ];
 
 /// Counts of rooms for the time of a call.
@@ -103,6 +106,8 @@ fn main() {
     print_placings("nanoseconds per call of Placing in, by the placing");
 
     print_groups("nanoseconds per call of Groups, by the groups");
+
+    print_traces("nanoseconds per move of Trace, by the trace of n moves");
 
     print_rooms("nanoseconds per room");
 
@@ -371,5 +376,16 @@ fn print_groups(title: &str) {
             let times = groups(&plans, calls_in_a_round(&plans, n), |plan| plan);
             print_times(kind.name, n, sheet, &times, 1.0);
         }
+    }
+}
+
+/// Prints the times per move for traces of each kind.
+fn print_traces(title: &str) {
+    print_head(title);
+    for kind in TRACES {
+        let (traces, moves) = kind.traces();
+        let sheet = trace_by_sheet(&traces, |bytes| bytes);
+        let times = trace(&traces, calls_in_a_round(&traces, moves), |bytes| bytes);
+        print_times(kind.name, moves, sheet, &times, 1.0 / moves as f64);
     }
 }

@@ -39,6 +39,7 @@ mod svg;
 mod tally;
 pub mod text_damage;
 pub mod tidy;
+mod trace;
 pub mod tree;
 mod walks;
 
@@ -52,3 +53,4 @@ pub use program::Program;
 pub use question::AskedPlan;
 pub use rounds::repeat;
 pub use tally::{grouped, report, Tally};
+pub use trace::GivenTrace;

@@ -1,7 +1,7 @@
-//! Rooms, sides, relations, patterns, summaries and slacks in the library's own
-//! types.
+//! Rooms, sides, relations, patterns, summaries, slacks and what traces come to
+//! in the library's own types.
 
-use reference::{Condition, Pattern, Relation, Room, Side, Summary};
+use reference::{Condition, Pattern, Relation, Room, Side, Summary, Traced};
 
 /// A room as the library takes it.
 #[must_use]
@@ -72,4 +72,11 @@ pub fn summary(summary: Summary) -> nenturxo::Summary {
 #[must_use]
 pub fn slack((across, up): (i64, i64)) -> nenturxo::Slack {
     nenturxo::Slack { across, up }
+}
+
+/// What a trace comes to, as the library names it.
+#[must_use]
+pub fn traced(traced: Traced) -> nenturxo::Traced {
+    let Traced { moves, rooms, runs } = traced;
+    nenturxo::Traced { moves, rooms, runs }
 }

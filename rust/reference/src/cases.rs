@@ -13,6 +13,7 @@ pub mod sizes;
 pub mod slicing;
 mod small;
 pub mod text;
+pub mod trace;
 pub mod walk;
 pub mod worked;
 

@@ -14,6 +14,7 @@ mod sizes;
 mod steps;
 mod text;
 mod tidy;
+mod trace;
 mod tree;
 mod tree_by_intervals;
 #[cfg(test)]
@@ -29,5 +30,6 @@ pub use plan::{question, record_in};
 pub use rooms::rooms_in;
 pub use sizes::{lowest_corners, placing_in, slack};
 pub use tidy::tidy;
+pub use trace::trace;
 pub use tree::tree;
 pub use tree_by_intervals::tree_by_intervals;

@@ -2,7 +2,7 @@
 //!
 //! This is the separately written version that the proved library is held to.
 //! It is meant to be believed by reading: each function is one sentence of
-//! the sheet, or of the requests M-100 to M-109, and says which. What is fast
+//! the sheet, or of the requests M-100 to M-111, and says which. What is fast
 //! lives apart, in [`fast`], and is itself held to the definitions. What tests
 //! are made of is in [`cases`].
 //!
@@ -40,6 +40,7 @@ mod sizes;
 mod slicing;
 mod text;
 mod tidy;
+mod trace;
 mod tree;
 mod triple;
 
@@ -65,5 +66,6 @@ pub use sizes::{lowest_corners, placing_in, slack, SizedPlan};
 pub use slicing::is_slicing;
 pub use text::{numbers_in, tidy_form};
 pub use tidy::tidy;
+pub use trace::{trace, RefusedMove, TraceRefusal, Traced, TRACE_LENGTH};
 pub use tree::{tree, tree_of};
 pub use triple::{triples, Triple};

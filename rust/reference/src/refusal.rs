@@ -1,5 +1,5 @@
-//! The sheet's table of refusals, with the numbers that M-100, M-103, M-106,
-//! M-107, M-108 and M-109 add.
+//! The sheet's table of refusals, with the numbers that M-100, M-103, M-106 to
+//! M-109 and M-111 add.
 
 use std::fmt;
 
@@ -47,7 +47,8 @@ pub enum Refusal {
     NotSlicing = 19,
     /// 20: one nonzero name on two rooms
     NameTwice = 20,
-    /// 21: used part of a book is or would become longer than 65,535 bytes
+    /// 21: used part of a book is or would become longer than 65,535 bytes, or a
+    /// trace is
     BookLength = 21,
     /// 22: used length beyond the lent slice or a place beyond the used length
     PlaceOutside = 22,
@@ -61,11 +62,15 @@ pub enum Refusal {
     RelationBroken = 26,
     /// 27: a group is empty
     EmptyGroup = 27,
+    /// 28: a move of an unknown kind, without its body or with a triple above 7
+    BadMove = 28,
+    /// 29: the only room is taken away
+    OnlyRoom = 29,
 }
 
 impl Refusal {
     /// Every refusal, in the order of the table.
-    pub const ALL: [Self; 27] = [
+    pub const ALL: [Self; 29] = [
         Self::ListLength,
         Self::EmptyRoom,
         Self::SharedSquare,
@@ -93,6 +98,8 @@ impl Refusal {
         Self::ZeroSize,
         Self::RelationBroken,
         Self::EmptyGroup,
+        Self::BadMove,
+        Self::OnlyRoom,
     ];
 
     /// What a room list is refused with, in the sheet's order with that of
@@ -192,6 +199,17 @@ impl Refusal {
         Self::PositionsEqual,
     ]);
 
+    /// What a trace is refused with, in the request's order, before 15: too many
+    /// bytes, and then what a move is refused with.
+    pub const OF_TRACES: [Self; 6] = [
+        Self::BookLength,
+        Self::BadMove,
+        Self::ListLength,
+        Self::OnlyRoom,
+        Self::RunMissing,
+        Self::RunsLeft,
+    ];
+
     /// Those of a record, and then these.
     const fn of_records_and<const MORE: usize, const ALL: usize>(
         more: [Self; MORE],
@@ -240,7 +258,9 @@ impl Refusal {
             Self::TextForm => "text breaks the form or is longer than 4,096 bytes",
             Self::NotSlicing => "the plan is not slicing",
             Self::NameTwice => "one nonzero name on two rooms",
-            Self::BookLength => "used part of a book is or would become longer than 65,535 bytes",
+            Self::BookLength => {
+                "used part of a book is or would become longer than 65,535 bytes, or a trace is"
+            }
             Self::PlaceOutside => {
                 "used length beyond the lent slice or a place beyond the used length"
             }
@@ -249,6 +269,8 @@ impl Refusal {
             Self::ZeroSize => "a size of 0",
             Self::RelationBroken => "a placing that breaks a relation",
             Self::EmptyGroup => "a group is empty",
+            Self::BadMove => "a move of an unknown kind, without its body or with a triple above 7",
+            Self::OnlyRoom => "the only room is taken away",
         }
     }
 }
@@ -266,9 +288,9 @@ mod tests {
     use super::Refusal;
 
     #[test]
-    fn numbers_are_1_to_27_in_the_order_of_the_table() {
+    fn numbers_are_1_to_29_in_the_order_of_the_table() {
         let numbers: Vec<u8> = Refusal::ALL.iter().map(|r| r.number()).collect();
-        assert_eq!(numbers, (1..=27).collect::<Vec<u8>>());
+        assert_eq!(numbers, (1..=29).collect::<Vec<u8>>());
     }
 
     #[test]
@@ -290,5 +312,6 @@ mod tests {
         assert_eq!(numbers(&Refusal::OF_PLACINGS), of_placings);
         let of_groups = [9, 10, 11, 14, 12, 13, 16, 27, 17];
         assert_eq!(numbers(&Refusal::OF_GROUPS), of_groups);
+        assert_eq!(numbers(&Refusal::OF_TRACES), [21, 28, 1, 29, 12, 13]);
     }
 }

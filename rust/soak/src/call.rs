@@ -1,6 +1,6 @@
 //! The calls.
 
-use crate::{books, groups, labels, patterns, records, rooms, sizes, texts};
+use crate::{books, groups, labels, patterns, records, rooms, sizes, texts, traces};
 use compare::Tally;
 use reference::cases::Random;
 use reference::Refusal;
@@ -29,7 +29,7 @@ const OF_POSITIONS: &[Refusal] = &[Refusal::PositionOutside, Refusal::PositionsE
 const OF_ADDING: &[Refusal] = &[Refusal::BytesAfter, Refusal::SliceShort];
 
 /// The calls of the library.
-pub const CALLS: [Call; 13] = [
+pub const CALLS: [Call; 14] = [
     Call {
         name: "Labels in",
         compare_some: labels::compare_some,
@@ -94,6 +94,11 @@ pub const CALLS: [Call; 13] = [
         name: "Groups",
         compare_some: groups::compare_some,
         refusals: [&Refusal::OF_GROUPS, &[]],
+    },
+    Call {
+        name: "Trace",
+        compare_some: traces::compare_some,
+        refusals: [&Refusal::OF_TRACES, OF_SLICES],
     },
 ];
 

@@ -20,6 +20,7 @@ mod rooms;
 mod size;
 mod sizes;
 mod texts;
+mod traces;
 
 use call::{Call, BATCH, CALLS};
 use compare::{grouped, Tally};
@@ -29,7 +30,7 @@ use std::sync::atomic::{AtomicUsize, Ordering};
 use std::{env, panic, process, thread};
 
 /// Batches, unless the argument says otherwise.
-const BATCHES: usize = 13_000;
+const BATCHES: usize = 14_000;
 
 const THREADS: usize = 2;
 
