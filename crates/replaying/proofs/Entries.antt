@@ -1,21 +1,18 @@
--- Entries: an entry tells its rooms, and what a triple adds to it.
+-- Entries: they have 16 bits, and what a triple adds to one.
 use mathlib.Core.Bool.{true, false}
 use mathlib.Core.List.{List, _∷_}
 use mathlib.Core.Path.{_≡_, ap, subst, _∙_}
-use Prim.Native.Nat.{ℕ, zero, suc, _+_, _/_, _≤_}
+use Prim.Native.Nat.{ℕ, zero, suc, _+_, _≤_}
 use native.Mathlib.Omega.{arith}
 use Rattle.record.specs.Triple.{Triple, triple}
 use Rattle.record.specs.Walk.{Counts, step, andThen}
 use Rattle.record.specs.Read.{Missing}
-use Rattle.traces.specs.State.{roomsOf, countsOf, runsIn, runsOf, entryOf}
+use Rattle.traces.specs.State.{countsOf, runsIn, entryOf}
 use Rattle.traces.specs.Newest.{counts-add}
 use Rattle.traces.specs.Still.{Built, built-few, counted, built-runs}
 use Rattle.replaying.specs.Packed.{gainOf}
 
 module _ {present : List Triple} (b : Built present) where
-  pub entry-rooms : entryOf present / 256 ≡ roomsOf present
-  entry-rooms = omega (arith, built-runs b, built-few b)
-
   pub entry-small : entryOf present ≤ 65535
   entry-small = omega (arith, built-runs b, built-few b)
 

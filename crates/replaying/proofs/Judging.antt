@@ -1,6 +1,6 @@
 -- The first pass: after some moves the numbers stand for a state from which the moves that are left go on to the end of the whole replay.
-use mathlib.Core.List.{List, []}
-use mathlib.Core.Path.{_≡_, refl, sym, ap, _∙_}
+use mathlib.Core.List.{List, [], _∷_}
+use mathlib.Core.Path.{_≡_, refl, sym, ap, subst, _∙_}
 use Prim.Native.Nat.{ℕ, suc, _+_, _≤_, _<_}
 use native.Mathlib.Omega.{arith}
 use lib.ListN.{length, getD, drop, set, length-set, drop-of-length-le}
@@ -42,37 +42,57 @@ held-first xs kept size first = record {
   early = omega arith;
 }
 
+-- what holds after a turn
+pub record After (xs : List ℕ) (at moves : ℕ) (kept : List ℕ) (place rooms number : ℕ) : Type 0 where
+  pub ahead : at < place
+  pub held : Held xs kept place (moves + 1) rooms number
+
+pub after-as : {xs : List ℕ} {at moves : ℕ} {k l : List ℕ} {p q r s m n : ℕ} → After xs at moves k p r m → l ≡ k → q ≡ p → s ≡ r → n ≡ m
+    → After xs at moves l q s n
+after-as {xs} {at} {moves} {k} {l} {p} {q} {r} {s} {m} {n} h a b c d =
+    subst (λ (j : List ℕ). After xs at moves j q s n) (sym a)
+    (subst (λ (i : ℕ). After xs at moves k i s n) (sym b)
+    (subst (λ (i : ℕ). After xs at moves k p i n) (sym c) (subst (λ (i : ℕ). After xs at moves k p r i) (sym d) h)))
+
 module _ {xs kept : List ℕ} {at moves rooms number : ℕ} (h : Held xs kept at moves rooms number) where
   -- a move that is made
-  pub held-next : {place rooms-next number-next : ℕ} → Goes xs at (h .present) kept place rooms-next number-next
-      → Held xs (set kept rooms-next number-next) place (moves + 1) rooms-next number-next
-  held-next {place} {rooms-next} {number-next} g = record {
-    present = g .state;
-    stands = g .stands;
-    kept-are = kept-stored packedOf (g .state) kept rooms-next number-next (g .stands .rooms-are) (g .stands .counts-are) room (g .back);
-    size = length-set kept rooms-next number-next ∙ h .size;
-    same =
-        ap (λ (k : ℕ). replayFrom (g .state) k (movesOf (drop place xs))) one
-        ∙ sym (replay-next (g .move) (movesOf (drop place xs)) (h .present) moves (g .makes))
-        ∙ ap (replayFrom (h .present) moves) (sym (g .begins)) ∙ h .same;
-    within = g .within;
-    early = omega (arith, h .early, g .ahead);
+  pub after-move : {kept-next : List ℕ} {place rooms-next number-next : ℕ} {state : List Triple} → Goes xs at (h .present) place state
+      → Stands state rooms-next number-next → Kept packedOf state kept-next → length kept-next ≡ 256
+      → After xs at moves kept-next place rooms-next number-next
+  after-move {place = place} {state = state} g s k size = record {
+    ahead = g .ahead;
+    held = record {
+      present = state;
+      stands = s;
+      kept-are = k;
+      size = size;
+      same =
+          ap (λ (j : ℕ). replayFrom state j (movesOf (drop place xs))) one
+          ∙ sym (replay-next (g .move) (movesOf (drop place xs)) (h .present) moves (g .makes))
+          ∙ ap (replayFrom (h .present) moves) (sym (g .begins)) ∙ h .same;
+      within = g .within;
+      early = omega (arith, h .early, g .ahead);
+    };
   }
     where
       one : moves + 1 ≡ suc moves
       one = omega arith
 
-      room : rooms-next < length kept
-      room = omega (arith, h .size, stands-few (g .stands) .1)
+  -- one that adds a room, whose counts are kept
+  pub after-adding : {place rooms-next number-next : ℕ} {t : Triple} → Goes xs at (h .present) place (t ∷ h .present)
+      → Stands (t ∷ h .present) rooms-next number-next → After xs at moves (set kept rooms-next number-next) place rooms-next number-next
+  after-adding {rooms-next = j} {number-next = n} {t = t} g s =
+      let room : j < length kept = omega (arith, h .size, stands-few s .1) in
+      after-move g s (kept-stored packedOf (t ∷ h .present) kept j n (s .rooms-are) (s .counts-are) room (h .kept-are)) (length-set kept j n ∙ h .size)
 
   -- one that is refused
   pub held-stopped : {refusal : Refusal} {runs : ℕ} → Halts xs at (h .present) refusal → CountsRuns number runs
       → Stopped refusal (moves + 1) rooms runs ≡ judgedOf (replay (movesOf xs))
   held-stopped {refusal} t told =
       let one : moves + 1 ≡ suc moves = omega arith in
+      let stops = replay-refused (t .move) (t .rest) (h .present) moves (t .refuses) in
       (λ i. Stopped refusal (one i) (h .stands .rooms-are i) (stands-runs (h .stands) told i))
-      ∙ ap judgedOf
-      (sym (replay-refused (t .move) (t .rest) (h .present) moves (t .refuses)) ∙ ap (replayFrom (h .present) moves) (sym (t .begins)) ∙ h .same)
+      ∙ ap judgedOf (sym stops ∙ ap (replayFrom (h .present) moves) (sym (t .begins)) ∙ h .same)
 
   -- the end of the trace
   pub held-ended : {runs : ℕ} → length xs ≤ at → CountsRuns number runs → Ended moves rooms runs ≡ judgedOf (replay (movesOf xs))

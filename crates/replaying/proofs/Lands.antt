@@ -2,12 +2,13 @@
 -- counts.
 use mathlib.Core.Bool.{true, false}
 use mathlib.Core.Logic.{_⊎_, inl, inr, _≢_}
-use mathlib.Core.Path.{_≡_, refl, sym, subst}
-use Prim.Native.Nat.{ℕ, zero, suc, _+_, _-_, _*_, _%_, _≤_, _<_}
+use mathlib.Core.Path.{_≡_, refl}
+use Prim.Native.Nat.{ℕ, zero, suc, _+_, _-_, _*_, _%_, _<_}
 use native.Mathlib.Omega.{arith}
 use Rattle.record.specs.Triple.{Triple, triple}
 use Rattle.record.specs.Walk.{Counts, missing, counts, step}
-use Rattle.replaying.specs.Packed.{packed, rowOf, StepsTo}
+use Rattle.record.specs.Read.{Missing}
+use Rattle.replaying.specs.Packed.{packed, rowOf}
 
 -- there are no triples but 0 to 7
 pub none-left : (t : ℕ) → t < 8 → t ≢ 0 → t ≢ 1 → t ≢ 2 → t ≢ 3 → t ≢ 4 → t ≢ 5 → t ≢ 6 → t ≢ 7 → ⊥
@@ -25,11 +26,11 @@ none-left (suc (suc (suc (suc (suc (suc (suc (suc t)))))))) h a b c d e f g k = 
 abbrev pub Lacks : ℕ → Type 0
 Lacks n = (n % 256 ≡ 0) ⊎ (n < 256)
 
-abbrev Lands : ℕ → Counts → Type 0
+abbrev pub Lands : ℕ → Counts → Type 0
 Lands n missing = Lacks n
 Lands n (counts p q) = (n ≡ 257 + p + 256 * q) × (p < 255)
 
-lands : (t : Triple) (p q : ℕ) → p + q < 254 → Lands (257 + p + 256 * q + rowOf t - 256) (step t p q)
+pub lands : (t : Triple) (p q : ℕ) → p + q < 254 → Lands (257 + p + 256 * q + rowOf t - 256) (step t p q)
 unfolding step
 lands (triple false false false) p q few = (omega arith, omega arith)
 lands (triple false true false) p q few = (omega arith, omega arith)
@@ -44,27 +45,11 @@ lands (triple false true true) (suc p) q few = (omega arith, omega arith)
 lands (triple true true true) zero q few = inl (omega arith)
 lands (triple true true true) (suc p) q few = (omega arith, omega arith)
 
-lands-missing : (n : ℕ) (c : Counts) → Lands n c → Lacks n → 0 ≡ packed c
-lands-missing n missing l h = refl
+pub lands-missing : (n : ℕ) (c : Counts) → Lands n c → Lacks n → Missing c
+lands-missing n missing l h = tt
 lands-missing n (counts p q) (e, few) (inl h) = absurd (omega arith)
 lands-missing n (counts p q) (e, few) (inr h) = absurd (omega arith)
 
-lands-there : (n : ℕ) (c : Counts) → Lands n c → ¬ Lacks n → n ≡ packed c
+pub lands-there : (n : ℕ) (c : Counts) → Lands n c → ¬ Lacks n → (¬ Missing c) × (n ≡ packed c)
 lands-there n missing l h = absurd (h l)
-lands-there n (counts p q) (e, few) h = e
-
-module _ (t : Triple) (before row : ℕ) (row-is : row ≡ rowOf t) where
-  landed : (p q : ℕ) → before ≡ packed (counts p q) → p + q < 254 → Lands (before + row - 256) (step t p q)
-  landed p q e few =
-      let same : before + row - 256 ≡ 257 + p + 256 * q + rowOf t - 256 = omega arith in
-      subst (λ (n : ℕ). Lands n (step t p q)) (sym same) (lands t p q few)
-
-  pub steps-to-missing : Lacks (before + row - 256) → StepsTo t before 0
-  steps-to-missing h p q e few = lands-missing (before + row - 256) (step t p q) (landed p q e few) h
-
-  pub steps-to-next : ¬ (_≡_ {A = ℕ} ((before + row - 256) % 256) 0) → 256 ≤ before + row - 256 → StepsTo t before (before + row - 256)
-  steps-to-next a b p q e few = lands-there (before + row - 256) (step t p q) (landed p q e few) there
-    where
-      there : ¬ Lacks (before + row - 256)
-      there (inl h) = a h
-      there (inr h) = omega arith
+lands-there n (counts p q) (e, few) h = ((λ z. z), e)

@@ -1,6 +1,7 @@
 pub mod Lands
 pub mod Reading
 pub mod Turning
+pub mod Moving
 pub mod Keeping
 pub mod Judging
 pub mod Entries

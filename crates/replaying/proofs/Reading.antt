@@ -8,6 +8,7 @@ use native.Mathlib.Omega.{arith}
 use lib.ListN.{length, getD, drop, drop-of-length-le}
 use lib.Seq.{drop-cons}
 use Rattle.record.specs.TripleNumber.{tripleOf}
+use Rattle.replaying.specs.Turn.{backMove}
 use Rattle.traces.specs.Move.{add, take-away, claim, unknown, movesOf}
 
 module _ (xs : List ℕ) (at : ℕ) (h : at < length xs) where
@@ -39,6 +40,14 @@ module _ (xs : List ℕ) (at : ℕ) (h : at < length xs) where
 
   pub three : getD xs at 0 ≡ 3 → movesOf (drop at xs) ≡ claim ∷ movesOf (drop (at + 1) xs)
   three e = ap movesOf (begins-with 3 e) ∙ (unfold movesOf in refl)
+
+  pub back-begins : (kind : ℕ) → getD xs at 0 ≡ kind → 2 ≤ kind → kind ≤ 3
+      → movesOf (drop at xs) ≡ backMove kind ∷ movesOf (drop (at + 1) xs)
+  back-begins zero e a b = absurd (omega arith)
+  back-begins (suc zero) e a b = absurd (omega arith)
+  back-begins (suc (suc zero)) e a b = two e
+  back-begins (suc (suc (suc zero))) e a b = three e
+  back-begins (suc (suc (suc (suc kind)))) e a b = absurd (omega arith)
 
   pub other : getD xs at 0 ≢ 1 → getD xs at 0 ≢ 2 → getD xs at 0 ≢ 3 → movesOf (drop at xs) ≡ unknown ∷ []
   other a b c = ap movesOf (begins-with (getD xs at 0) refl) ∙ go (getD xs at 0) (drop (at + 1) xs) a b c

@@ -1,5 +1,5 @@
 -- The two passes together: the answer follows from what the first one comes to, and an accepted trace has a place for each entry.
-use mathlib.Core.List.{List, [], _++_}
+use mathlib.Core.List.{List, _++_}
 use mathlib.Core.Logic.{ite, if-pos, if-neg}
 use mathlib.Core.Path.{_≡_, refl, sym, ap, _∙_}
 use Prim.Native.Nat.{ℕ, suc, _≤_, _<_}

@@ -2,7 +2,7 @@
 use mathlib.Core.List.{List, [], _∷_, _++_, map, append-nil}
 use mathlib.Core.Logic.{_≢_}
 use mathlib.Core.Path.{_≡_, refl, sym, ap, subst, _∙_}
-use Prim.Native.Nat.{ℕ, suc, _+_, _-_, _/_, _≤_, _<_}
+use Prim.Native.Nat.{ℕ, zero, suc, _+_, _-_, _≤_, _<_}
 use native.Mathlib.Decide.{decLt, ℕ-discrete}
 use native.Mathlib.Omega.{arith}
 use lib.ListN.{length, getD, drop, set, length-append, length-set, drop-of-length-le}
@@ -18,36 +18,39 @@ use Rattle.traces.specs.Row.{Leads, more, NoneRefused, states-next}
 use Rattle.traces.specs.Still.{Built, start, built-on, built-few}
 use Rattle.traces.specs.Answer.{entriesOf}
 use Rattle.replaying.specs.Packed.{gainOf}
-use Rattle.replaying.specs.Turn.{Back, Kept}
+use Rattle.replaying.specs.Turn.{Below, Kept, backMove}
 use Rattle.replaying.specs.Passes.{filledBy}
 use Rattle.replaying.proofs.Keeping.{kept-stored}
-use Rattle.replaying.proofs.Reading.{one-alone, one-small, one-large, two, three, other}
-use Rattle.replaying.proofs.Entries.{entry-rooms, entry-small, entry-added}
+use Rattle.replaying.proofs.Reading.{one-alone, one-small, one-large, back-begins, other}
+use Rattle.replaying.proofs.Entries.{entry-small, entry-added}
 
 -- the state in which the pass stands before the move at a place
-pub record Standing (xs kept : List ℕ) (at entry : ℕ) : Type 0 where
+pub record Standing (xs kept : List ℕ) (at rooms entry : ℕ) : Type 0 where
   pub present : List Triple
   pub end : List Triple
   pub built : Built present
   pub leads : Leads present (movesOf (drop at xs)) end
+  pub rooms-are : rooms ≡ roomsOf present
   pub entry-is : entry ≡ entryOf present
   pub kept-are : Kept entryOf present kept
   pub size : length kept ≡ 256
   pub within : at ≤ length xs
 
 -- the move at a place is made, and the pass stands before the next one
-pub record Moved {xs kept : List ℕ} {at entry : ℕ} (s : Standing xs kept at entry) (kept-next : List ℕ) (place entry-next : ℕ)
-    : Type 0 where
+pub record Moved {xs kept : List ℕ} {at rooms entry : ℕ} (s : Standing xs kept at rooms entry)
+    (kept-next : List ℕ) (place rooms-next entry-next : ℕ) : Type 0 where
   pub move : Move
   pub ahead : at < place
   pub begins : movesOf (drop at xs) ≡ move ∷ movesOf (drop place xs)
-  pub next : Standing xs kept-next place entry-next
+  pub next : Standing xs kept-next place rooms-next entry-next
   pub makes : Makes move (s .present) (next .present)
 
-pub moved-as : {xs kept : List ℕ} {at entry : ℕ} (s : Standing xs kept at entry) {k l : List ℕ} {p q e f : ℕ} → Moved s k p e
-    → l ≡ k → q ≡ p → f ≡ e → Moved s l q f
-moved-as s {k} {l} {p} {q} {e} {f} m a b c =
-    subst (λ (j : List ℕ). Moved s j q f) (sym a) (subst (λ (i : ℕ). Moved s k i f) (sym b) (subst (λ (i : ℕ). Moved s k p i) (sym c) m))
+pub moved-as : {xs kept : List ℕ} {at rooms entry : ℕ} (s : Standing xs kept at rooms entry) {k l : List ℕ} {p q r n e f : ℕ}
+    → Moved s k p r e → l ≡ k → q ≡ p → n ≡ r → f ≡ e → Moved s l q n f
+moved-as s {k} {l} {p} {q} {r} {n} {e} {f} m a b c d =
+    subst (λ (j : List ℕ). Moved s j q n f) (sym a)
+    (subst (λ (i : ℕ). Moved s k i n f) (sym b)
+    (subst (λ (i : ℕ). Moved s k p i f) (sym c) (subst (λ (i : ℕ). Moved s k p r i) (sym d) m)))
 
 -- ---- each kind of move
 -- the first move of an accepted row
@@ -71,31 +74,29 @@ makes-known (added d e) = tt
 makes-known taken = tt
 makes-known (claimed d) = tt
 
--- what it makes of entries
+-- what it makes of rooms, entries and what is kept
 added-entry : {t : Triple} {present state : List Triple} → Makes (add t) present state → Built present
-    → entryOf state ≡ entryOf present + gainOf t
-added-entry {t} (added few there) b = entry-added t b there
+    → (roomsOf state ≡ roomsOf present + 1) × (entryOf state ≡ entryOf present + gainOf t)
+added-entry {t} (added few there) b = (omega arith, entry-added t b there)
 
-added-back : {t : Triple} {present state : List Triple} (kept : List ℕ) → Makes (add t) present state → Kept entryOf present kept
-    → Back entryOf state kept
-added-back kept (added few there) k = k
+added-below : {t : Triple} {present state : List Triple} (kept : List ℕ) → Makes (add t) present state → Kept entryOf present kept
+    → Below entryOf state kept
+added-below kept (added few there) k = k
 
-taken-back : {present state : List Triple} (kept : List ℕ) → Makes take-away present state → Kept entryOf present kept
-    → (roomsOf present ≡ suc (roomsOf state)) × Kept entryOf state kept
-taken-back kept taken k = (refl, k .1)
+back-kept : (kind : ℕ) → 2 ≤ kind → kind ≤ 3 → {present state : List Triple} (kept : List ℕ) → Makes (backMove kind) present state
+    → Kept entryOf present kept → (roomsOf present + kind - 3 ≡ roomsOf state) × Kept entryOf state kept
+back-kept zero a b kept m k = absurd (omega arith)
+back-kept (suc zero) a b kept m k = absurd (omega arith)
+back-kept (suc (suc zero)) a b kept taken k = (omega arith, k .1)
+back-kept (suc (suc (suc zero))) a b kept (claimed d) k = (omega arith, k)
+back-kept (suc (suc (suc (suc kind)))) a b kept m k = absurd (omega arith)
 
-claimed-same : {present state : List Triple} → Makes claim present state → state ≡ present
-claimed-same (claimed d) = refl
-
-module _ {xs kept : List ℕ} {at entry : ℕ} (s : Standing xs kept at entry) (h : at < length xs) where
+module _ {xs kept : List ℕ} {at rooms entry : ℕ} (s : Standing xs kept at rooms entry) (h : at < length xs) where
   leads-to : {move : Move} {moves : List Move} → movesOf (drop at xs) ≡ move ∷ moves → Led move moves (s .present) (s .end)
   leads-to e = led (subst (λ (ms : List Move). Leads (s .present) ms (s .end)) e (s .leads))
 
   none-unknown : ¬ (movesOf (drop at xs) ≡ unknown ∷ [])
   none-unknown e = makes-known (leads-to e .makes)
-
-  pub entry-room : entry / 256 ≡ roomsOf (s .present)
-  entry-room = ap (λ (e : ℕ). e / 256) (s .entry-is) ∙ entry-rooms (s .built)
 
   -- kind 1: it has its body
   module _ (one : getD xs at 0 ≡ 1) where
@@ -116,11 +117,12 @@ module _ {xs kept : List ℕ} {at entry : ℕ} (s : Standing xs kept at entry) (
     pub adds : Led (add (tripleOf (getD xs (at + 1) 0))) (movesOf (drop (at + 2) xs)) (s .present) (s .end)
     adds = leads-to (one-small xs at h one one-body body-small)
 
+    -- the entry with a room more, and the number of rooms
     pub record Gained (entry-next : ℕ) : Type 0 where
       pub is : entry-next ≡ entryOf (adds .state)
       pub small : entry-next ≤ 65535
-      pub place : entry-next / 256 ≡ roomsOf (adds .state)
-      pub room : entry-next / 256 < 256
+      pub place : rooms + 1 ≡ roomsOf (adds .state)
+      pub room : rooms + 1 ≤ 255
 
     pub gained : (gain : ℕ) → gain ≡ gainOf (tripleOf (getD xs (at + 1) 0)) → Gained (entry + gain)
     gained gain e = record { is = is; small = omega (arith, is, entry-small b); place = place; room = omega (arith, place, built-few b) }
@@ -129,12 +131,12 @@ module _ {xs kept : List ℕ} {at entry : ℕ} (s : Standing xs kept at entry) (
         b = built-on (adds .makes) (s .built)
 
         is : entry + gain ≡ entryOf (adds .state)
-        is = omega (arith, s .entry-is, e, added-entry (adds .makes) (s .built))
+        is = omega (arith, s .entry-is, e, added-entry (adds .makes) (s .built) .1)
 
-        place : (entry + gain) / 256 ≡ roomsOf (adds .state)
-        place = ap (λ (k : ℕ). k / 256) is ∙ entry-rooms b
+        place : rooms + 1 ≡ roomsOf (adds .state)
+        place = omega (arith, s .rooms-are, added-entry (adds .makes) (s .built) .0)
 
-    pub moved-add : {entry-next : ℕ} → Gained entry-next → Moved s (set kept (entry-next / 256) entry-next) (at + 2) entry-next
+    pub moved-add : {entry-next : ℕ} → Gained entry-next → Moved s (set kept (rooms + 1) entry-next) (at + 2) (rooms + 1) entry-next
     moved-add {entry-next} g = record {
       move = add (tripleOf (getD xs (at + 1) 0));
       ahead = omega arith;
@@ -144,82 +146,64 @@ module _ {xs kept : List ℕ} {at entry : ℕ} (s : Standing xs kept at entry) (
         end = s .end;
         built = built-on (adds .makes) (s .built);
         leads = adds .leads;
+        rooms-are = g .place;
         entry-is = g .is;
         kept-are =
-            kept-stored entryOf (adds .state) kept (entry-next / 256) entry-next (g .place) (g .is) (omega (arith, g .room, s .size))
-            (added-back kept (adds .makes) (s .kept-are));
-        size = length-set kept (entry-next / 256) entry-next ∙ s .size;
+            kept-stored entryOf (adds .state) kept (rooms + 1) entry-next (g .place) (g .is) (omega (arith, g .room, s .size))
+            (added-below kept (adds .makes) (s .kept-are));
+        size = length-set kept (rooms + 1) entry-next ∙ s .size;
         within = omega (arith, one-body);
       };
       makes = adds .makes;
     }
 
-  -- kind 2: there is a room to take away
-  module _ (one : getD xs at 0 ≡ 2) where
-    takes : Led take-away (movesOf (drop (at + 1) xs)) (s .present) (s .end)
-    takes = leads-to (two xs at h one)
+  -- kinds 2 and 3: no other is left
+  module _ (none : getD xs at 0 ≢ 1) {kind left : ℕ} (told : kind ≡ getD xs at 0) (left-is : left ≡ rooms + kind - 3) where
+    pub two-or-three : (2 ≤ kind) × (kind ≤ 3)
+    two-or-three = go (ℕ-discrete (getD xs at 0) 2) (ℕ-discrete (getD xs at 0) 3)
+      where
+        go : Dec (getD xs at 0 ≡ 2) → Dec (getD xs at 0 ≡ 3) → (2 ≤ kind) × (kind ≤ 3)
+        go (yes e) d = (omega arith, omega arith)
+        go (no c) (yes e) = (omega arith, omega arith)
+        go (no c) (no d) = absurd (none-unknown (other xs at h none c d))
 
-    back : (roomsOf (s .present) ≡ suc (roomsOf (takes .state))) × Kept entryOf (takes .state) kept
-    back = taken-back kept (takes .makes) (s .kept-are)
+    begins : movesOf (drop at xs) ≡ backMove kind ∷ movesOf (drop (at + 1) xs)
+    begins = back-begins xs at h kind (sym told) (two-or-three .0) (two-or-three .1)
 
-    pub two-rooms : (2 ≤ entry / 256) × (entry / 256 ≤ 255)
-    two-rooms = (omega (arith, entry-room, back .0), omega (arith, entry-room, built-few (s .built)))
+    goes : Led (backMove kind) (movesOf (drop (at + 1) xs)) (s .present) (s .end)
+    goes = leads-to begins
 
-    pub moved-take : (v : ℕ) → v ≡ getD kept (entry / 256 - 1) 0 → Moved s kept (at + 1) v
-    moved-take v read =
-        let place : entry / 256 - 1 ≡ roomsOf (takes .state) = omega (arith, entry-room, back .0) in
-        record {
-          move = take-away;
-          ahead = omega arith;
-          begins = two xs at h one;
-          next = record {
-            present = takes .state;
-            end = s .end;
-            built = built-on (takes .makes) (s .built);
-            leads = takes .leads;
-            entry-is = read ∙ ap (λ (i : ℕ). getD kept i 0) place ∙ back .1 .0;
-            kept-are = back .1;
-            size = s .size;
-            within = omega arith;
-          };
-          makes = takes .makes;
-        }
+    back : (roomsOf (s .present) + kind - 3 ≡ roomsOf (goes .state)) × Kept entryOf (goes .state) kept
+    back = back-kept kind (two-or-three .0) (two-or-three .1) kept (goes .makes) (s .kept-are)
 
-  -- kind 3: no other is left
-  pub moved-claim : getD xs at 0 ≢ 1 → getD xs at 0 ≢ 2 → Moved s kept (at + 1) entry
-  moved-claim a b = record {
-    move = claim;
-    ahead = omega arith;
-    begins = three xs at h third;
-    next = record {
-      present = claims .state;
-      end = s .end;
-      built = built-on (claims .makes) (s .built);
-      leads = claims .leads;
-      entry-is = s .entry-is ∙ ap entryOf (sym same);
-      kept-are = subst (λ (state : List Triple). Kept entryOf state kept) (sym same) (s .kept-are);
-      size = s .size;
-      within = omega arith;
-    };
-    makes = claims .makes;
-  }
-    where
-      third : getD xs at 0 ≡ 3
-      third = go (ℕ-discrete (getD xs at 0) 3)
-        where
-          go : Dec (getD xs at 0 ≡ 3) → getD xs at 0 ≡ 3
-          go (yes e) = e
-          go (no c) = absurd (none-unknown (other xs at h a b c))
+    place : left ≡ roomsOf (goes .state)
+    place = omega (arith, s .rooms-are, back .0)
 
-      claims : Led claim (movesOf (drop (at + 1) xs)) (s .present) (s .end)
-      claims = leads-to (three xs at h third)
+    pub left-small : (1 ≤ left) × (left ≤ 255)
+    left-small = (omega (arith, place), omega (arith, place, built-few (built-on (goes .makes) (s .built))))
 
-      same : claims .state ≡ s .present
-      same = claimed-same (claims .makes)
+    pub moved-back : (v : ℕ) → v ≡ getD kept left 0 → Moved s kept (at + 1) left v
+    moved-back v read = record {
+      move = backMove kind;
+      ahead = omega arith;
+      begins = begins;
+      next = record {
+        present = goes .state;
+        end = s .end;
+        built = built-on (goes .makes) (s .built);
+        leads = goes .leads;
+        rooms-are = place;
+        entry-is = read ∙ ap (λ (i : ℕ). getD kept i 0) place ∙ back .1 .0;
+        kept-are = back .1;
+        size = s .size;
+        within = omega arith;
+      };
+      makes = goes .makes;
+    }
 
 -- ---- what is written
-pub record Written (xs before now kept : List ℕ) (at moves entry : ℕ) : Type 0 where
-  pub standing : Standing xs kept at entry
+pub record Written (xs before now kept : List ℕ) (at moves rooms entry : ℕ) : Type 0 where
+  pub standing : Standing xs kept at rooms entry
   pub done : List ℕ
   pub size : length done ≡ moves
   pub now-is : now ≡ done ++ drop moves before
@@ -228,7 +212,7 @@ pub record Written (xs before now kept : List ℕ) (at moves entry : ℕ) : Type
   pub count : length (movesOf xs) ≡ moves + length (movesOf (drop at xs))
 
 pub written-first : (xs before kept : List ℕ) → NoneRefused (movesOf xs) → length kept ≡ 256 → getD kept 1 0 ≡ 257
-    → Written xs before before kept 0 0 257
+    → Written xs before before kept 0 0 1 257
 unfolding countsOf walk
 written-first xs before kept (end, leads) size first = record {
   standing = record {
@@ -236,6 +220,7 @@ written-first xs before kept (end, leads) size first = record {
     end = end;
     built = start;
     leads = leads;
+    rooms-are = refl;
     entry-is = refl;
     kept-are = (first, tt);
     size = size;
@@ -249,13 +234,13 @@ written-first xs before kept (end, leads) size first = record {
   count = omega arith;
 }
 
-module _ {xs before now kept : List ℕ} {at moves entry : ℕ} (w : Written xs before now kept at moves entry) where
-  module _ {kept-next : List ℕ} {place entry-next : ℕ} (m : Moved (w .standing) kept-next place entry-next)
+module _ {xs before now kept : List ℕ} {at moves rooms entry : ℕ} (w : Written xs before now kept at moves rooms entry) where
+  module _ {kept-next : List ℕ} {place rooms-next entry-next : ℕ} (m : Moved (w .standing) kept-next place rooms-next entry-next)
       (room : length (movesOf xs) ≤ length before) where
     pub written-room : moves < length before
     written-room = omega (arith, w .count, ap length (m .begins))
 
-    pub written-next : Written xs before (set now moves entry-next) kept-next place (moves + 1) entry-next
+    pub written-next : Written xs before (set now moves entry-next) kept-next place (moves + 1) rooms-next entry-next
     written-next = record {
       standing = m .next;
       done = w .done ++ (entry-next ∷ []);

@@ -3,7 +3,7 @@ use mathlib.Core.Bool.{true, false}
 use mathlib.Core.Path.{_≡_}
 use Prim.Native.Nat.{ℕ, suc, _+_, _*_, _<_}
 use Rattle.record.specs.Triple.{Triple, triple}
-use Rattle.record.specs.Walk.{Counts, missing, counts, step}
+use Rattle.record.specs.Walk.{Counts, missing, counts}
 
 -- each with 1 added, 0 where a run is missing
 abbrev pub packed : Counts → ℕ
@@ -20,10 +20,6 @@ rowOf (triple true false false) = 1
 rowOf (triple true false true) = 256
 rowOf (triple true true false) = 0
 rowOf (triple true true true) = 255
-
--- a number of counts steps to another one; with so few runs neither count grows over its 8 bits
-abbrev pub StepsTo : Triple → (before after : ℕ) → Type 0
-StepsTo t before after = (p q : ℕ) → before ≡ packed (counts p q) → p + q < 254 → after ≡ packed (step t p q)
 
 -- a number of counts tells the runs, the current one among them
 abbrev pub CountsRuns : (number runs : ℕ) → Type 0

@@ -2,47 +2,17 @@
 // request. A trace is gone through twice: it is judged whole, and then the states of one that is accepted are written.
 ghost use mathlib.Core.Path.{_≡_};
 ghost use Prim.Native.Nat.{_≤_, _<_};
-ghost use lib.ListN.{length, drop};
+ghost use lib.ListN.{length};
 ghost use Rattle.record.specs.TripleNumber.{tripleOf};
 ghost use Rattle.traces.specs.Move.{movesOf};
 ghost use Rattle.traces.specs.Replay.{replay};
 ghost use Rattle.traces.specs.Row.{NoneRefused};
 ghost use Rattle.traces.specs.Answer.{Traced};
-ghost use Rattle.replaying.specs.Packed.{rowOf, StepsTo, CountsRuns, gainOf};
-ghost use Rattle.replaying.specs.Turn.{Begins, AddTurn, MoveTurn};
+ghost use Rattle.replaying.specs.Packed.{rowOf, CountsRuns, gainOf};
+ghost use Rattle.replaying.specs.Turn.{AddTurn, BackTurn, MoveTurn};
 ghost use Rattle.replaying.specs.Passes.{judgedOf, filledBy};
 use record::Refusal;
 use traces::TraceAnswer;
-
-// A move as its bytes say it: kind 1 with its triple, kind 2, kind 3, or none of them.
-enum Move {
-    Add(u8),
-    TakeAway,
-    Claim,
-    Unknown,
-}
-
-// The move that begins at a place of the trace.
-fn move_at(trace: &[u8], at: usize) -> Move
-    requires { ⌜ (at < length (now trace)) × (length (now trace) ≤ 65535) ⌝ }
-    ensures { λ r. ⌜ Begins r (now (trace .entry)) at ⌝ }
-{
-    match trace[at] {
-        1 => {
-            if trace.len() <= at + 1 {
-                return Move::Unknown;
-            }
-            let triple = trace[at + 1];
-            if triple < 8 {
-                return Move::Add(triple);
-            }
-            Move::Unknown
-        }
-        2 => Move::TakeAway,
-        3 => Move::Claim,
-        _ => Move::Unknown,
-    }
-}
 
 // How many runs lie below the current one and how many above it stand in one number: below + 1 in the low 8 bits and above + 1 over them.
 // So a count of one less than none is 0 there, and tells that the run which was to be joined is missing.
@@ -67,21 +37,6 @@ fn row(triple: u8) -> usize
     }
 }
 
-// The counts after one triple more, or 0 where it needs a run that is missing.
-fn stepped(triple: u8, counts: usize) -> usize
-    requires { ⌜ (triple < 8) × (257 ≤ counts) × (counts ≤ 65535) ⌝ }
-    ensures { λ r. ⌜ StepsTo (tripleOf triple) counts r ⌝ }
-{
-    let next = counts + row(triple) - 256;
-    if next % 256 == 0 {
-        return 0;
-    }
-    if next < 256 {
-        return 0;
-    }
-    next
-}
-
 // The number of runs, the current one among them.
 fn runs(counts: usize) -> usize
     requires { ⌜ (257 ≤ counts) × (counts ≤ 65535) ⌝ }
@@ -90,56 +45,88 @@ fn runs(counts: usize) -> usize
     counts / 256 + counts % 256 - 1
 }
 
-// A number that was kept.
+// What a move makes of a plan: the counts of runs with a room more; or how many rooms are left, and the counts with them; or why it is
+// refused.
+enum Turn {
+    Added(usize),
+    Back(usize, usize),
+    Refused(Refusal),
+}
+
+// A room is added.
+fn added(triple: u8, rooms: usize, counts: usize) -> Turn
+    requires { ⌜ (triple < 8) × (rooms ≤ 255) × (257 ≤ counts) × (counts ≤ 65535) ⌝ }
+    ensures { λ r. ⌜ AddTurn (tripleOf triple) rooms counts r ⌝ }
+{
+    if rooms == 255 {
+        return Turn::Refused(Refusal::Count);
+    }
+    let next = counts + row(triple) - 256;
+    if next % 256 == 0 {
+        return Turn::Refused(Refusal::MissingRun);
+    }
+    if next < 256 {
+        return Turn::Refused(Refusal::MissingRun);
+    }
+    Turn::Added(next)
+}
+
+// A number that was kept, and a byte, as wider numbers.
 fn wide(kept: u16) -> usize
     ensures { λ r. ⌜ (r ≡ kept) × (r ≤ 65535) ⌝ }
 {
     kept as usize
 }
 
-// What a move makes of a plan: the place of the next move, the rooms, and the counts of runs; or why it is refused.
-enum Turn {
-    Next(usize, usize, usize),
-    Refused(Refusal),
-}
-
-// A room is added, and the next move is at `next`.
-fn added(triple: u8, next: usize, rooms: usize, counts: usize) -> Turn
-    requires { ⌜ (triple < 8) × (1 ≤ rooms) × (rooms ≤ 255) × (257 ≤ counts) × (counts ≤ 65535) ⌝ }
-    ensures { λ r. ⌜ AddTurn (tripleOf triple) next rooms counts r ⌝ }
+fn broad(byte: u8) -> usize
+    ensures { λ r. ⌜ (r ≡ byte) × (r ≤ 255) ⌝ }
 {
-    if rooms == 255 {
-        return Turn::Refused(Refusal::Count);
-    }
-    let after = stepped(triple, counts);
-    if after == 0 {
-        return Turn::Refused(Refusal::MissingRun);
-    }
-    Turn::Next(next, rooms + 1, after)
+    byte as usize
 }
 
-// One move. Where it takes a room away, the counts are those that were kept when there was one room less.
+// A room is taken away, with kind 2, or one run is claimed, with kind 3. Either goes back to counts that were kept, with kind 3 to those of
+// the plan as it is: so there is no jump between the two, which could not be foreseen.
+fn back(kind: u8, rooms: usize, kept: &[u16; 256]) -> Turn
+    requires { ⌜ (2 ≤ kind) × (kind ≤ 3) × (1 ≤ rooms) × (rooms ≤ 255) ⌝ }
+    ensures { λ r. ⌜ BackTurn kind rooms (now (kept .entry)) r ⌝ }
+{
+    let left = rooms + broad(kind) - 3;
+    if left == 0 {
+        return Turn::Refused(Refusal::OnlyRoom);
+    }
+    let counts = wide(kept[left]);
+    if kind == 3 {
+        if counts != ONE_RUN {
+            return Turn::Refused(Refusal::SeveralRuns);
+        }
+    }
+    Turn::Back(left, counts)
+}
+
+// One move.
 fn made(trace: &[u8], at: usize, rooms: usize, counts: usize, kept: &[u16; 256]) -> Turn
     requires { ⌜ (at < length (now trace)) × (length (now trace) ≤ 65535) ⌝
         ∗ ⌜ (1 ≤ rooms) × (rooms ≤ 255) × (257 ≤ counts) × (counts ≤ 65535) ⌝ }
     ensures { λ r. ⌜ MoveTurn (now (trace .entry)) at rooms counts (now (kept .entry)) r ⌝ }
 {
-    match move_at(trace, at) {
-        Move::Add(triple) => added(triple, at + 2, rooms, counts),
-        Move::TakeAway => {
-            if rooms == 1 {
-                return Turn::Refused(Refusal::OnlyRoom);
-            }
-            Turn::Next(at + 1, rooms - 1, wide(kept[rooms - 1]))
+    let kind = trace[at];
+    if kind == 1 {
+        if trace.len() <= at + 1 {
+            return Turn::Refused(Refusal::BadMove);
         }
-        Move::Claim => {
-            if counts != ONE_RUN {
-                return Turn::Refused(Refusal::SeveralRuns);
-            }
-            Turn::Next(at + 1, rooms, counts)
+        let triple = trace[at + 1];
+        if 7 < triple {
+            return Turn::Refused(Refusal::BadMove);
         }
-        Move::Unknown => Turn::Refused(Refusal::BadMove),
+        return added(triple, rooms, counts);
     }
+    if kind < 2 {
+        return Turn::Refused(Refusal::BadMove);
+    }
+    if 3 < kind {
+        return Turn::Refused(Refusal::BadMove);
+    }
+    back(kind, rooms, kept)
 }
 
 // What judging a trace comes to: after so many moves, the rooms and runs; or why a move is refused, its ordinal, and the rooms and runs
@@ -165,13 +152,18 @@ fn judge(trace: &[u8]) -> Judged
                 let ordinal = moves + 1;
                 return Judged::Stopped(refusal, ordinal, rooms, runs(counts));
             }
-            Turn::Next(next_at, next_rooms, next_counts) => {
-                at = next_at;
-                rooms = next_rooms;
-                counts = next_counts;
+            Turn::Added(next) => {
+                rooms += 1;
+                counts = next;
+                kept[rooms] = next as u16;
+                at += 2;
+            }
+            Turn::Back(left, next) => {
+                rooms = left;
+                counts = next;
+                at += 1;
             }
         }
-        kept[rooms] = counts as u16;
         moves += 1;
     }
     Judged::Ended(moves, rooms, runs(counts))
@@ -195,8 +187,8 @@ fn gain(triple: u8) -> usize
     }
 }
 
-// The second pass, over a trace that is accepted. An entry has the rooms in its high byte and the runs in its low one, so nothing but the
-// entries themselves has to be kept by the number of rooms, at first that of one room and one run.
+// The second pass, over a trace that is accepted. Nothing but the entries themselves has to be kept by the number of rooms, at first that of
+// one room and one run.
 fn write(trace: &[u8], states: &mut [u16])
     requires { ⌜ (length (now trace) ≤ 65535) × NoneRefused (movesOf (now trace)) × (length (movesOf (now trace)) ≤ length (now states)) ⌝ }
     ensures { λ r. ⌜ now (states .exit) ≡ filledBy (now (trace .entry)) (now (states .entry)) ⌝ }
@@ -204,21 +196,19 @@ fn write(trace: &[u8], states: &mut [u16])
     let mut kept = [257u16; 256];
     let mut at = 0;
     let mut moves = 0;
+    let mut rooms = 1;
     let mut entry = 257;
     while at < trace.len() {
-        match trace[at] {
-            1 => {
-                entry += gain(trace[at + 1]);
-                kept[entry / 256] = entry as u16;
-                at += 2;
-            }
-            2 => {
-                entry = wide(kept[entry / 256 - 1]);
-                at += 1;
-            }
-            _ => {
-                at += 1;
-            }
+        let kind = trace[at];
+        if kind == 1 {
+            entry += gain(trace[at + 1]);
+            rooms += 1;
+            kept[rooms] = entry as u16;
+            at += 2;
+        } else {
+            rooms = rooms + broad(kind) - 3;
+            entry = wide(kept[rooms]);
+            at += 1;
         }
         states[moves] = entry as u16;
         moves += 1;
