@@ -1,14 +1,14 @@
 -- The move that begins at a place of a trace, by the byte there and the next one.
 use mathlib.Core.List.{List, [], _∷_}
-use mathlib.Core.Logic.{_≢_, if-pos, if-neg}
-use mathlib.Core.Path.{_≡_, refl, ap, _∙_}
+use mathlib.Core.Logic.{inl, inr, _≢_, if-pos, if-neg}
+use mathlib.Core.Path.{_≡_, refl, sym, ap, _∙_}
 use Prim.Native.Nat.{ℕ, zero, suc, _+_, _≤_, _<_}
 use native.Mathlib.Decide.{decLt}
 use native.Mathlib.Omega.{arith}
 use lib.ListN.{length, getD, drop, drop-of-length-le}
 use lib.Seq.{drop-cons}
 use Rattle.record.specs.TripleNumber.{tripleOf}
-use Rattle.replaying.specs.Turn.{backMove}
+use Rattle.replaying.specs.Turn.{backMove, Body}
 use Rattle.traces.specs.Move.{add, take-away, claim, unknown, movesOf}
 
 module _ (xs : List ℕ) (at : ℕ) (h : at < length xs) where
@@ -33,6 +33,18 @@ module _ (xs : List ℕ) (at : ℕ) (h : at < length xs) where
 
     pub one-large : ¬ (getD xs (at + 1) 0 < 8) → movesOf (drop at xs) ≡ unknown ∷ []
     one-large large = ap movesOf one-and-body ∙ (unfold movesOf in if-neg (decLt (getD xs (at + 1) 0) 8) large _ _)
+
+  -- by the body that was read, or that is missing
+  module _ (e : getD xs at 0 ≡ 1) {body : ℕ} where
+    pub one-bad : Body xs at body → 7 < body → movesOf (drop at xs) ≡ unknown ∷ []
+    one-bad (inl (l, is)) large = one-large e l (omega arith)
+    one-bad (inr (l, is)) large = one-alone e l
+
+    pub one-good : Body xs at body → body ≤ 7
+        → (at + 2 ≤ length xs) × (movesOf (drop at xs) ≡ add (tripleOf body) ∷ movesOf (drop (at + 2) xs))
+    one-good (inl (l, is)) small =
+        (omega arith, one-small e l (omega arith) ∙ ap (λ (b : ℕ). add (tripleOf b) ∷ movesOf (drop (at + 2) xs)) (sym is))
+    one-good (inr (l, is)) small = absurd (omega arith)
 
   -- kinds 2 and 3, and all others
   pub two : getD xs at 0 ≡ 2 → movesOf (drop at xs) ≡ take-away ∷ movesOf (drop (at + 1) xs)

@@ -1,5 +1,6 @@
 -- What one move makes of the numbers, told of the state that they stand for.
 use mathlib.Core.List.{List, [], _∷_}
+use mathlib.Core.Logic.{_⊎_}
 use mathlib.Core.Path.{_≡_}
 use Prim.Native.Nat.{ℕ, zero, suc, _+_, _≤_, _<_}
 use lib.ListN.{length, getD, drop}
@@ -60,6 +61,10 @@ Backed kind present kept (Refused refusal) = Refuses (backMove kind) present ref
 abbrev pub BackTurn : (kind rooms : ℕ) (kept : List ℕ) → Turn → Type 0
 BackTurn kind rooms kept turn =
     (present : List Triple) → Built present → rooms ≡ roomsOf present → Kept packedOf present kept → Backed kind present kept turn
+
+-- the body of the move at a place, or 8 where it is missing
+abbrev pub Body : (bytes : List ℕ) (at body : ℕ) → Type 0
+Body bytes at body = ((at + 1 < length bytes) × (body ≡ getD bytes (at + 1) 0)) ⊎ ((length bytes ≤ at + 1) × (body ≡ 8))
 
 -- the move at a place makes another state, and the next one is at another place
 pub record Goes (bytes : List ℕ) (at : ℕ) (present : List Triple) (place : ℕ) (state : List Triple) : Type 0 where

@@ -9,7 +9,7 @@ ghost use Rattle.traces.specs.Replay.{replay};
 ghost use Rattle.traces.specs.Row.{NoneRefused};
 ghost use Rattle.traces.specs.Answer.{Traced};
 ghost use Rattle.replaying.specs.Packed.{rowOf, CountsRuns, gainOf};
-ghost use Rattle.replaying.specs.Turn.{AddTurn, BackTurn, MoveTurn};
+ghost use Rattle.replaying.specs.Turn.{AddTurn, BackTurn, Body, MoveTurn};
 ghost use Rattle.replaying.specs.Passes.{judgedOf, filledBy};
 use record::Refusal;
 use traces::TraceAnswer;
@@ -103,6 +103,17 @@ fn back(kind: u8, rooms: usize, kept: &[u16; 256]) -> Turn
     Turn::Back(left, counts)
 }
 
+// The triple of the move at a place, or 8, which is none, where its body is missing.
+fn triple_at(trace: &[u8], at: usize) -> u8
+    requires { ⌜ (at < length (now trace)) × (length (now trace) ≤ 65535) ⌝ }
+    ensures { λ r. ⌜ Body (now (trace .entry)) at r ⌝ }
+{
+    if trace.len() <= at + 1 {
+        return 8;
+    }
+    trace[at + 1]
+}
+
 // One move.
 fn made(trace: &[u8], at: usize, rooms: usize, counts: usize, kept: &[u16; 256]) -> Turn
     requires { ⌜ (at < length (now trace)) × (length (now trace) ≤ 65535) ⌝
@@ -111,10 +122,7 @@ fn made(trace: &[u8], at: usize, rooms: usize, counts: usize, kept: &[u16; 256])
 {
     let kind = trace[at];
     if kind == 1 {
-        if trace.len() <= at + 1 {
-            return Turn::Refused(Refusal::BadMove);
-        }
-        let triple = trace[at + 1];
+        let triple = triple_at(trace, at);
         if 7 < triple {
             return Turn::Refused(Refusal::BadMove);
         }

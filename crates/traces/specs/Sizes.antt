@@ -4,7 +4,6 @@ use mathlib.Core.Path.{sym, subst}
 use Prim.Native.Nat.{ℕ, _≤_}
 use native.Mathlib.Omega.{arith}
 use lib.ListN.{length}
-use Rattle.traces.specs.Move.{movesOf}
 use Rattle.traces.specs.Answer.{traceAnswer, Traced}
 use Rattle.traces.specs.Row.{stops-within}
 use Rattle.traces.specs.Still.{start, built-few, built-runs, leads-built, stops-built}
