@@ -1,5 +1,5 @@
--- The number of a replay tells its moves, rooms and runs, and that of a refused move also why it is refused. The number of a refused move is
--- above all numbers of refusals, so it is not one of those that are returned alone.
+-- The number of a replay tells its moves, rooms and runs, and that of a refused move its ordinal, the rooms and runs before it and why it
+-- is refused. The latter is above all numbers of refusals, so it is not one of those that are returned alone.
 use mathlib.Core.Path.{_≡_}
 use Prim.Native.Nat.{ℕ, _≤_, _<_}
 use native.Mathlib.Omega.{arith}

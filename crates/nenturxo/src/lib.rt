@@ -196,9 +196,9 @@ pub extern "C" fn nenturxo_groups(record: &[u8], first: &[u8; 32], second: &[u8;
     codes::groups_code(answer)
 }
 
-// Trace: the count of the moves, the final rooms and runs in one number, with the rooms and runs after each move from the front of `states`;
-// of a refused move its number, its ordinal and the rooms and runs before it in one number negated; or another refusal's number negated, and
-// nothing written.
+// Trace: the count of the moves and the final rooms and runs in one number, with the rooms and runs after each move from the front of
+// `states`; of a refused move its number, its ordinal and the rooms and runs before it in one number, negated; or another refusal's number
+// negated; and on any refusal nothing written.
 #[no_mangle]
 pub extern "C" fn nenturxo_trace(trace: &[u8], states: &mut [u16]) -> i64
     ensures { λ r. ⌜ Coded traceCode r

@@ -83,7 +83,8 @@ module _ {xs kept : List ℕ} {at moves rooms number : ℕ} (h : Held xs kept at
       → Stands (t ∷ h .present) rooms-next number-next → After xs at moves (set kept rooms-next number-next) place rooms-next number-next
   after-adding {rooms-next = j} {number-next = n} {t = t} g s =
       let room : j < length kept = omega (arith, h .size, stands-few s .1) in
-      after-move g s (kept-stored packedOf (t ∷ h .present) kept j n (s .rooms-are) (s .counts-are) room (h .kept-are)) (length-set kept j n ∙ h .size)
+      let stored = kept-stored packedOf (t ∷ h .present) kept j n (s .rooms-are) (s .counts-are) room (h .kept-are) in
+      after-move g s stored (length-set kept j n ∙ h .size)
 
   -- one that is refused
   pub held-stopped : {refusal : Refusal} {runs : ℕ} → Halts xs at (h .present) refusal → CountsRuns number runs

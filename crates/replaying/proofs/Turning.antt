@@ -40,7 +40,8 @@ module _ {present : List Triple} {rooms number : ℕ} (s : Stands present rooms 
   pub stands-runs : {runs : ℕ} → CountsRuns number runs → runs ≡ runsOf present
   stands-runs told =
       let c = counted (s .built) in
-      told (c .below) (c .above) (s .counts-are ∙ packed-is (s .built) c) (omega (arith, c .few, built-few (s .built))) ∙ sym (ap runsIn (c .are))
+      let few : c .below + c .above < 255 = omega (arith, c .few, built-few (s .built)) in
+      told (c .below) (c .above) (s .counts-are ∙ packed-is (s .built) c) few ∙ sym (ap runsIn (c .are))
 
   -- ---- a room is added
   pub added-past : (t : Triple) → rooms ≡ 255 → Refuses (add t) present Count
@@ -62,7 +63,8 @@ module _ {present : List Triple} {rooms number : ℕ} (s : Stands present rooms 
         (subst (Lands (257 + c .below + 256 * c .above + rowOf t - 256)) (sym next) (lands t (c .below) (c .above) few))
 
     pub added-missing : Lacks (number + row - 256) → Refuses (add t) present MissingRun
-    added-missing h = missing-run {t = t} {present = present} few-after (lands-missing (number + row - 256) (countsOf (t ∷ present)) landed h)
+    added-missing h =
+        missing-run {t = t} {present = present} few-after (lands-missing (number + row - 256) (countsOf (t ∷ present)) landed h)
 
     module _ (some : (number + row - 256) % 256 ≢ 0) (much : 256 ≤ number + row - 256) where
       there : (¬ Missing (countsOf (t ∷ present))) × (number + row - 256 ≡ packedOf (t ∷ present))
@@ -83,7 +85,8 @@ module _ {present : List Triple} {rooms number : ℕ} (s : Stands present rooms 
       }
 
 -- ---- a move goes back, by its kind
-module _ (present : List Triple) (b : Built present) (kept : List ℕ) (k : Kept packedOf present kept) {rooms : ℕ} (is : rooms ≡ roomsOf present)
+module _ (present : List Triple) (b : Built present) (kept : List ℕ) (k : Kept packedOf present kept)
+    {rooms : ℕ} (is : rooms ≡ roomsOf present)
     {kind wide left : ℕ} (told : wide ≡ kind) (left-is : left ≡ rooms + wide - 3) where
   -- to no room at all
   pub back-only : 2 ≤ kind → left ≡ 0 → Refuses (backMove kind) present OnlyRoom
@@ -114,7 +117,9 @@ module _ (present : List Triple) (b : Built present) (kept : List ℕ) (k : Kept
       pub back-claim : v ≡ 257 → Goes-back kind present kept left v
       back-claim h = record {
         state = present;
-        makes = subst (λ (j : ℕ). Makes (backMove j) present present) (sym three) (claimed (subst (λ (c : Counts). ¬ Several c) (sym (counted b .are)) one));
+        makes =
+            subst (λ (j : ℕ). Makes (backMove j) present present) (sym three)
+            (claimed (subst (λ (c : Counts). ¬ Several c) (sym (counted b .are)) one));
         stands = record { built = b; rooms-are = place; counts-are = read-is };
         kept-are = k;
       }
@@ -126,7 +131,8 @@ module _ (present : List Triple) (b : Built present) (kept : List ℕ) (k : Kept
     pub back-take : kind ≡ 2 → left ≢ 0 → Goes-back kind present kept left v
     back-take two some = go present b k (omega arith)
       where
-        go : (present : List Triple) → Built present → Kept packedOf present kept → left + 1 ≡ roomsOf present → Goes-back kind present kept left v
+        go : (present : List Triple) → Built present → Kept packedOf present kept → left + 1 ≡ roomsOf present
+            → Goes-back kind present kept left v
         go [] b k e = absurd (some (omega arith))
         go (t ∷ present) (grown few there b) k e =
             let place : left ≡ roomsOf present = omega arith in

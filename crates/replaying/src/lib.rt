@@ -195,8 +195,8 @@ fn gain(triple: u8) -> usize
     }
 }
 
-// The second pass, over a trace that is accepted. Nothing but the entries themselves has to be kept by the number of rooms, at first that of
-// one room and one run.
+// The second pass, over a trace that is accepted. Nothing but the entries themselves has to be kept by the number of rooms, at first that
+// of one room and one run.
 fn write(trace: &[u8], states: &mut [u16])
     requires { ⌜ (length (now trace) ≤ 65535) × NoneRefused (movesOf (now trace)) × (length (movesOf (now trace)) ≤ length (now states)) ⌝ }
     ensures { λ r. ⌜ now (states .exit) ≡ filledBy (now (trace .entry)) (now (states .entry)) ⌝ }

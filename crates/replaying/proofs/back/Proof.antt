@@ -30,19 +30,22 @@ wide-requires c κs = search needs
 returns-2 : tie.Need-returns-2
 returns-2 c = λ present b is k.
     let w = c .before .before in
-    back-several present b _ k is (w .before .before .before .broad .ensures .0) refl (w .wide .result) (w .wide .ensures .0) (c .before .if2 .taken) (c .if3 .taken)
+    back-several present b _ k is (w .before .before .before .broad .ensures .0) refl (w .wide .result) (w .wide .ensures .0)
+    (c .before .if2 .taken) (c .if3 .taken)
 
 returns-3 : tie.Need-returns-3
 returns-3 c = λ present b is k.
     let w = c .before .before in
-    back-claim present b _ k is (w .before .before .before .broad .ensures .0) refl (w .wide .result) (w .wide .ensures .0) (c .before .if2 .taken) (c .if3 .left)
+    back-claim present b _ k is (w .before .before .before .broad .ensures .0) refl (w .wide .result) (w .wide .ensures .0)
+    (c .before .if2 .taken) (c .if3 .left)
 
 returns-4 : tie.Need-returns-4
 returns-4 c = λ present b is k.
     let w = c .before in
     let s = w .before .before .before .before in
     let two : s .args .kind ≡ 2 = omega (arith, s .pre .0, s .pre .1, c .if2 .left) in
-    back-take present b _ k is (w .before .before .before .broad .ensures .0) refl (w .wide .result) (w .wide .ensures .0) two (w .before .before .if1 .left)
+    back-take present b _ k is (w .before .before .before .broad .ensures .0) refl (w .wide .result) (w .wide .ensures .0)
+    two (w .before .before .if1 .left)
 
 pub back-spec : {M : Type 1} → statement M
 back-spec =

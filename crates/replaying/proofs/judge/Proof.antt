@@ -98,11 +98,14 @@ add-at-2 c = search needs
 
 -- what the turn has made
 moved : (c : lts.At-match-came claims reads.Pre reads.Post Inv-loop μ-loop) → let l = at-loop (c .before) in
-    After (l .before .before .args .trace .now) (l .loop .at) (l .loop .moves) (c .match .kept) (c .match .at) (c .match .rooms) (c .match .counts)
+    After (l .before .before .args .trace .now) (l .loop .at) (l .loop .moves)
+    (c .match .kept) (c .match .at) (c .match .rooms) (c .match .counts)
 moved c =
     let h = at-loop (c .before) .loop .inv in
     elim (c .match .came) [
-      | inl (match, next, told, a, b, e, f) ↦ let (t, goes, stands) = turned (c .before) (next .given .1) in after-as (after-adding h goes stands) a b e f
+      | inl (match, next, told, a, b, e, f) ↦
+          let (t, goes, stands) = turned (c .before) (next .given .1) in
+          after-as (after-adding h goes stands) a b e f
       | inr (match, left, told, a, b, e, f) ↦
           let (state, goes, stands, kept) = turned (c .before) (left .given .1) in
           after-as (after-move h goes stands kept (h .size)) a b e f

@@ -17,7 +17,8 @@ returns : tie.Need-returns
 returns c = λ present s k.
     let f = c .before .before .before .before .before in
     let body = c .before .triple-at .ensures in
-    turned-bad _ _ present (one-bad (f .args .trace .now) (f .args .at) (f .pre .0 .0) (c .before .before .if1 .taken) body (omega (arith, c .if2 .taken)))
+    let one = c .before .before .if1 .taken in
+    turned-bad _ _ present (one-bad (f .args .trace .now) (f .args .at) (f .pre .0 .0) one body (omega (arith, c .if2 .taken)))
 
 added-requires : tie.Need-added-requires
 added-requires c κs =
@@ -54,7 +55,9 @@ back-requires c κs =
 returns-5 : tie.Need-returns-5
 returns-5 c = λ present s k.
     let f = c .before .before .before .before .before .before in
-    let begins = back-begins (f .args .trace .now) (f .args .at) (f .pre .0 .0) _ refl (c .before .before .if3 .left) (c .before .if4 .left) in
+    let some = c .before .before .if3 .left in
+    let few = c .before .if4 .left in
+    let begins = back-begins (f .args .trace .now) (f .args .at) (f .pre .0 .0) _ refl some few in
     turned-back _ _ present _ _ _ (f .pre .0 .0) begins (c .back .result) (c .back .ensures present (s .built) (s .rooms-are) k)
 
 pub made-spec : {M : Type 1} → statement M
