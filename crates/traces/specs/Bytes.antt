@@ -2,8 +2,8 @@
 -- bytes.
 use mathlib.Core.Bool.{true, false}
 use mathlib.Core.List.{List, [], _∷_}
-use mathlib.Core.Logic.{ite, if-pos}
-use mathlib.Core.Path.{_≡_, refl, ap, _∙_}
+use mathlib.Core.Logic.{_≢_, ite, if-pos, if-neg}
+use mathlib.Core.Path.{_≡_, refl, sym, ap, subst, _∙_}
 use Prim.Native.Nat.{ℕ, zero, suc, _+_, _*_, _≤_, _<_}
 use native.Mathlib.Decide.{decLt}
 use native.Mathlib.Omega.{arith}
@@ -51,6 +51,53 @@ moves-of-bytes (add t ∷ moves) k = read-add t (bytesOf moves) ∙ ap (λ (ms :
 moves-of-bytes (take-away ∷ moves) k = ap (λ (ms : List Move). take-away ∷ ms) (moves-of-bytes moves k)
 moves-of-bytes (claim ∷ moves) k = ap (λ (ms : List Move). claim ∷ ms) (moves-of-bytes moves k)
 
+-- ---- 28 by the bytes
+-- "an unknown kind, a missing body or a triple above 7"
+pub data BadBytes : List ℕ → Type 0 where
+  unknown-kind : {kind : ℕ} {rest : List ℕ} → kind ≢ 1 → kind ≢ 2 → kind ≢ 3 → BadBytes (kind ∷ rest)
+  missing-body : BadBytes (1 ∷ [])
+  above-7 : {body : ℕ} {rest : List ℕ} → ¬ (body < 8) → BadBytes (1 ∷ (body ∷ rest))
+
+pub bad→unknown : {bytes : List ℕ} → BadBytes bytes → movesOf bytes ≡ unknown ∷ []
+unfolding movesOf
+bad→unknown (unknown-kind {kind} {rest} a b c) = go kind a b c
+  where
+    go : (kind : ℕ) → kind ≢ 1 → kind ≢ 2 → kind ≢ 3 → movesOf (kind ∷ rest) ≡ unknown ∷ []
+    go zero a b c = refl
+    go (suc zero) a b c = absurd (a refl)
+    go (suc (suc zero)) a b c = absurd (b refl)
+    go (suc (suc (suc zero))) a b c = absurd (c refl)
+    go (suc (suc (suc (suc kind)))) a b c = refl
+bad→unknown missing-body = refl
+bad→unknown (above-7 {body} h) = if-neg (decLt body 8) h _ _
+
+-- the first move is unknown
+abbrev FirstUnknown : List Move → Type 0
+FirstUnknown [] = ⊥
+FirstUnknown (add t ∷ moves) = ⊥
+FirstUnknown (take-away ∷ moves) = ⊥
+FirstUnknown (claim ∷ moves) = ⊥
+FirstUnknown (unknown ∷ moves) = Unit
+
+first-unknown→bad : (bytes : List ℕ) → FirstUnknown (movesOf bytes) → BadBytes bytes
+unfolding movesOf
+first-unknown→bad [] f = absurd f
+first-unknown→bad (zero ∷ rest) f = unknown-kind {kind = 0} {rest = rest} (omega arith) (omega arith) (omega arith)
+first-unknown→bad (suc zero ∷ []) f = missing-body
+first-unknown→bad (suc zero ∷ (body ∷ rest)) f = go (decLt body 8) f
+  where
+    go : (d : Dec (body < 8)) → FirstUnknown (ite d (add (tripleOf body) ∷ movesOf rest) (unknown ∷ [])) → BadBytes (1 ∷ (body ∷ rest))
+    go (yes d) f = absurd f
+    go (no d) f = above-7 d
+first-unknown→bad (suc (suc zero) ∷ rest) f = absurd f
+first-unknown→bad (suc (suc (suc zero)) ∷ rest) f = absurd f
+first-unknown→bad (suc (suc (suc (suc kind))) ∷ rest) f =
+    unknown-kind {kind = suc (suc (suc (suc kind)))} {rest = rest} (omega arith) (omega arith) (omega arith)
+
+pub unknown→bad : (bytes : List ℕ) → movesOf bytes ≡ unknown ∷ [] → BadBytes bytes
+unknown→bad bytes e = first-unknown→bad bytes (subst FirstUnknown (sym e) tt)
+
+-- ---- lengths, and a trace that is cut
 -- a move has at least one byte
 pub moves-few : (bytes : List ℕ) → length (movesOf bytes) ≤ length bytes
 unfolding movesOf

@@ -1,5 +1,5 @@
 -- M-111: what is promised of a replay.
-use mathlib.Core.List.{List, [], map}
+use mathlib.Core.List.{List, [], _∷_, map}
 use mathlib.Core.Logic.{_↔_, inr, if-neg}
 use mathlib.Core.Path.{_≡_, sym, ap, ap₂, subst, _∙_}
 use Prim.Native.Nat.{ℕ, suc, _+_, _-_, _≤_, _<_}
@@ -13,14 +13,14 @@ use Rattle.record.specs.Read.{kindOf, bodyOf, endOf, NoKind, ShortBody, BytesAf
 use Rattle.record.specs.Checked.{Readable, dec-missing}
 use Rattle.record.specs.declared.Refusal.{Refusal}
 use Rattle.record.specs.declared.Refusal.the-variants.{MissingRun}
-use Rattle.traces.specs.Move.{Move, add, take-away, movesOf}
+use Rattle.traces.specs.Move.{Move, add, take-away, unknown, movesOf}
 use Rattle.traces.specs.State.{roomsOf, countsOf, runsIn, entryOf}
 use Rattle.traces.specs.Replay.{refused, next, after, Replay, ended, stopped, replay, statesFrom}
 use Rattle.traces.specs.Answer.{replayAnswer, traceAnswer, entriesOf}
 use Rattle.traces.specs.Cause.{Refuses, Makes, added, taken, Caused, caused, refuses-after, makes-after}
 use Rattle.traces.specs.Row.{ended-iff-leads, stopped-iff-stops, cut-at-refused, stops-within}
 use Rattle.traces.specs.Still.{stillPresent, addsOf, still-there, start, leads-built, built-leads, length-adds}
-use Rattle.traces.specs.Bytes.{cut-bytes}
+use Rattle.traces.specs.Bytes.{BadBytes, bad→unknown, unknown→bad, cut-bytes}
 use Rattle.traces.specs.Adding.{triplesOf, traceOf, length-first, counts-first, leads-first, lacks-first, moves-of-trace, trace-few}
 use Rattle.traces.specs.declared.TraceAnswer.{TraceAnswer}
 use Rattle.traces.specs.declared.TraceAnswer.the-variants.{Replayed, RefusedMove, Refused}
@@ -29,6 +29,10 @@ use Rattle.traces.specs.declared.TraceAnswer.the-variants.{Replayed, Ref
 pub m111-refused-iff-cause : (move : Move) (present : List Triple) (refusal : Refusal)
     → (after move present ≡ refused refusal) ↔ Refuses move present refusal
 m111-refused-iff-cause move present refusal = (λ e. subst (Caused move present) e (caused move present), refuses-after)
+
+-- and 28, whose cause is in the bytes, for "an unknown kind, a missing body or a triple above 7"
+pub m111-unknown-iff-bad-bytes : (bytes : List ℕ) → (movesOf bytes ≡ unknown ∷ []) ↔ BadBytes bytes
+m111-unknown-iff-bad-bytes bytes = (unknown→bad bytes, bad→unknown)
 
 -- "Kind 2 takes the newest room away": that gives back the state before the room was added
 pub m111-take-away-gives-back : (t : Triple) (present state : List Triple) → after (add t) present ≡ next state
