@@ -435,7 +435,7 @@ int32_t nenturxo_groups(const uint8_t *record, size_t length,
  * those below it and above it. After each move rooms and runs are the ones that
  * the triples still present give from the start, whatever was taken away
  * meanwhile. To add the triples of a record one after another, and then to claim,
- * is accepted exactly if the record is.
+ * is accepted exactly if the record gets neither 12 nor 13.
  *
  * Gives the count of the moves and the final rooms and runs, in one number:
  *

@@ -13,13 +13,13 @@ use Rattle.record.specs.Read.{kindOf, bodyOf, endOf, NoKind, ShortBody, BytesAf
 use Rattle.record.specs.Checked.{Readable, dec-missing}
 use Rattle.record.specs.declared.Refusal.{Refusal}
 use Rattle.record.specs.declared.Refusal.the-variants.{MissingRun}
-use Rattle.traces.specs.Move.{Move, add, take-away, unknown, movesOf}
-use Rattle.traces.specs.State.{roomsOf, countsOf, runsIn, entryOf}
+use Rattle.traces.specs.Move.{Move, add, take-away, claim, unknown, movesOf}
+use Rattle.traces.specs.State.{roomsOf, countsOf, runsIn, runsOf, entryOf}
 use Rattle.traces.specs.Replay.{refused, next, after, Replay, ended, stopped, replay, statesFrom}
 use Rattle.traces.specs.Answer.{replayAnswer, traceAnswer, entriesOf}
-use Rattle.traces.specs.Cause.{Refuses, Makes, added, taken, Caused, caused, refuses-after, makes-after}
+use Rattle.traces.specs.Cause.{Refuses, Makes, added, taken, claimed, Caused, caused, refuses-after, makes-after}
 use Rattle.traces.specs.Row.{ended-iff-leads, stopped-iff-stops, cut-at-refused, stops-within}
-use Rattle.traces.specs.Still.{stillPresent, addsOf, still-there, start, leads-built, built-leads, length-adds}
+use Rattle.traces.specs.Still.{stillPresent, addsOf, still-there, Built, start, built-there, leads-built, built-leads, length-adds}
 use Rattle.traces.specs.Bytes.{BadBytes, bad→unknown, unknown→bad, cut-bytes}
 use Rattle.traces.specs.Adding.{triplesOf, traceOf, length-first, counts-first, leads-first, lacks-first, moves-of-trace, trace-few}
 use Rattle.traces.specs.declared.TraceAnswer.{TraceAnswer}
@@ -64,6 +64,25 @@ m111-cut-before-refused bytes refusal k before e =
     let ends = ended-iff-leads (take k (movesOf bytes)) k before .1 (count, cut .0) in
     (place, ap replay same ∙ ends, ap (map entryOf) (cut .1 ∙ ap (statesFrom []) (sym same)))
 
+-- ---- one run
+one-run : (end : Counts) → runsIn end ≡ 1 → (¬ Missing end) × (¬ Several end)
+one-run missing e = absurd (omega arith)
+one-run (counts p q) e = ((λ z. z), λ (s : 1 ≤ p + q). omega arith)
+
+one-left : (end : Counts) → ¬ Missing end → ¬ Several end → runsIn end ≡ 1
+one-left missing there one = absurd (there tt)
+one-left (counts p q) there one = omega arith
+
+-- "Kind 3 claims that one run is left": in a state that can be built that is accepted exactly if one is
+pub m111-claim-iff-one-run-left : (present : List Triple) → Built present → (after claim present ≡ next present) ↔ (runsOf present ≡ 1)
+m111-claim-iff-one-run-left present b = (to, λ e. makes-after (claimed (one-run (countsOf present) e .1)))
+  where
+    several : {state : List Triple} → Makes claim present state → ¬ Several (countsOf present)
+    several (claimed d) = d
+
+    to : after claim present ≡ next present → runsOf present ≡ 1
+    to e = one-left (countsOf present) (built-there b) (several (subst (Caused claim present) e (caused claim present)))
+
 -- ---- the trace that adds the triples of a record
 module _ (bytes : List ℕ) (kind : ¬ NoKind bytes) (few : kindOf bytes ≤ 255) where
   some-rooms : 1 ≤ kindOf bytes
@@ -93,15 +112,6 @@ module _ (bytes : List ℕ) (kind : ¬ NoKind bytes) (few : kindOf bytes ≤ 255
       let (o, b, s) = lacks-first (tripleIn (bodyOf bytes)) (kindOf bytes - 1) (omega arith) lacking in
       (o, b, ap replay (moves-of-trace bytes) ∙ stopped-iff-stops (addsOf (triplesOf bytes)) MissingRun o b .1 s)
 
--- so it is accepted with one run left exactly if the record is accepted
-one-run : (end : Counts) → runsIn end ≡ 1 → (¬ Missing end) × (¬ Several end)
-one-run missing e = absurd (omega arith)
-one-run (counts p q) e = ((λ z. z), λ (s : 1 ≤ p + q). omega arith)
-
-one-left : (end : Counts) → ¬ Missing end → ¬ Several end → runsIn end ≡ 1
-one-left missing there one = absurd (there tt)
-one-left (counts p q) there one = omega arith
-
 abbrev runsTold : TraceAnswer → ℕ
 runsTold (Replayed moves rooms runs) = runs
 runsTold (RefusedMove refusal ordinal rooms runs) = 0
@@ -110,6 +120,7 @@ runsTold (Refused refusal) = 0
 none-is-one : ¬ (_≡_ {A = ℕ} 0 1)
 none-is-one e = omega arith
 
+-- so it is accepted with one run left exactly if the record is accepted
 pub m111-record-accepted-iff-one-run-left : (bytes : List ℕ) (capacity : ℕ) → ¬ NoKind bytes → ¬ ShortBody bytes → ¬ BytesAfter bytes
     → ¬ SpareBit bytes → kindOf bytes ≤ 255 → kindOf bytes ≤ suc capacity
     → (traceAnswer (traceOf bytes) capacity ≡ Replayed (kindOf bytes - 1) (kindOf bytes) 1) ↔ Readable bytes
