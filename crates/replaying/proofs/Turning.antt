@@ -15,7 +15,7 @@ use Rattle.traces.specs.Newest.{counts-add}
 use Rattle.traces.specs.Cause.{Refuses, past-255, missing-run, only-room, several-runs, Makes, added, taken, claimed}
 use Rattle.traces.specs.Still.{Built, grown, built-few, Counted, counted}
 use Rattle.replaying.specs.Packed.{packed, rowOf, CountsRuns}
-use Rattle.replaying.specs.Turn.{packedOf, Stands, Kept, backMove, Goes-back}
+use Rattle.replaying.specs.Turn.{packedOf, Stands, Kept, backMove, GoesBack}
 use Rattle.replaying.proofs.Lands.{Lacks, Lands, lands, lands-missing, lands-there}
 
 -- ---- the numbers of a state
@@ -114,7 +114,7 @@ module _ (present : List Triple) (b : Built present) (kept : List ℕ) (k : Kept
           let several : Several (counts (c .below) (c .above)) = omega (arith, read-is, packed-is b c, h) in
           subst (λ (j : ℕ). Refuses (backMove j) present SeveralRuns) (sym three) (several-runs (subst Several (sym (c .are)) several))
 
-      pub back-claim : v ≡ 257 → Goes-back kind present kept left v
+      pub back-claim : v ≡ 257 → GoesBack kind present kept left v
       back-claim h = record {
         state = present;
         makes =
@@ -128,11 +128,11 @@ module _ (present : List Triple) (b : Built present) (kept : List ℕ) (k : Kept
           one m = omega (arith, read-is, packed-is b (counted b))
 
     -- kind 2
-    pub back-take : kind ≡ 2 → left ≢ 0 → Goes-back kind present kept left v
+    pub back-take : kind ≡ 2 → left ≢ 0 → GoesBack kind present kept left v
     back-take two some = go present b k (omega arith)
       where
         go : (present : List Triple) → Built present → Kept packedOf present kept → left + 1 ≡ roomsOf present
-            → Goes-back kind present kept left v
+            → GoesBack kind present kept left v
         go [] b k e = absurd (some (omega arith))
         go (t ∷ present) (grown few there b) k e =
             let place : left ≡ roomsOf present = omega arith in

@@ -47,7 +47,7 @@ backMove (suc (suc zero)) = take-away
 backMove (suc (suc (suc kind))) = claim
 
 -- the state to which such a move goes back
-pub record Goes-back (kind : ℕ) (present : List Triple) (kept : List ℕ) (rooms counts : ℕ) : Type 0 where
+pub record GoesBack (kind : ℕ) (present : List Triple) (kept : List ℕ) (rooms counts : ℕ) : Type 0 where
   pub state : List Triple
   pub makes : Makes (backMove kind) present state
   pub stands : Stands state rooms counts
@@ -55,7 +55,7 @@ pub record Goes-back (kind : ℕ) (present : List Triple) (kept : List ℕ) (roo
 
 abbrev pub Backed : (kind : ℕ) → List Triple → (kept : List ℕ) → Turn → Type 0
 Backed kind present kept (Added next) = ⊥
-Backed kind present kept (Back left next) = Goes-back kind present kept left next
+Backed kind present kept (Back left next) = GoesBack kind present kept left next
 Backed kind present kept (Refused refusal) = Refuses (backMove kind) present refusal
 
 abbrev pub BackTurn : (kind rooms : ℕ) (kept : List ℕ) → Turn → Type 0

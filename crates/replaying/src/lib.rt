@@ -71,17 +71,11 @@ fn added(triple: u8, rooms: usize, counts: usize) -> Turn
     Turn::Added(next)
 }
 
-// A number that was kept, and a byte, as wider numbers.
-fn wide(kept: u16) -> usize
+// A number that was kept.
+fn told(kept: u16) -> usize
     ensures { λ r. ⌜ (r ≡ kept) × (r ≤ 65535) ⌝ }
 {
     kept as usize
-}
-
-fn broad(byte: u8) -> usize
-    ensures { λ r. ⌜ (r ≡ byte) × (r ≤ 255) ⌝ }
-{
-    byte as usize
 }
 
 // A room is taken away, with kind 2, or one run is claimed, with kind 3. Either goes back to counts that were kept, with kind 3 to those of
@@ -90,11 +84,11 @@ fn back(kind: u8, rooms: usize, kept: &[u16; 256]) -> Turn
     requires { ⌜ (2 ≤ kind) × (kind ≤ 3) × (1 ≤ rooms) × (rooms ≤ 255) ⌝ }
     ensures { λ r. ⌜ BackTurn kind rooms (now (kept .entry)) r ⌝ }
 {
-    let left = rooms + broad(kind) - 3;
+    let left = rooms + steps::wide(kind) - 3;
     if left == 0 {
         return Turn::Refused(Refusal::OnlyRoom);
     }
-    let counts = wide(kept[left]);
+    let counts = told(kept[left]);
     if kind == 3 {
         if counts != ONE_RUN {
             return Turn::Refused(Refusal::SeveralRuns);
@@ -214,8 +208,8 @@ fn write(trace: &[u8], states: &mut [u16])
             kept[rooms] = entry as u16;
             at += 2;
         } else {
-            rooms = rooms + broad(kind) - 3;
-            entry = wide(kept[rooms]);
+            rooms = rooms + steps::wide(kind) - 3;
+            entry = told(kept[rooms]);
             at += 1;
         }
         states[moves] = entry as u16;

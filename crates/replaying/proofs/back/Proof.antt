@@ -6,37 +6,37 @@ use borrow.Author.Needs.{needs}
 use Rattle.replaying.proofs.back.Statement.{statement}
 use Rattle.replaying.proofs.back.Tie as tie
 
-broad-requires : tie.Need-broad-requires
-broad-requires c κs = search needs
+wide-requires : tie.Need-wide-requires
+wide-requires c κs = search needs
 
 add-left : tie.Need-add-left
 add-left c = search needs
 
 sub-left : tie.Need-sub-left
-sub-left c = omega (arith, c .broad .ensures .0, c .before .pre .0, c .before .pre .2)
+sub-left c = omega (arith, c .wide .ensures .0, c .before .pre .0, c .before .pre .2)
 
 returns : tie.Need-returns
-returns c = λ present b is k. back-only present b _ k is (c .before .broad .ensures .0) refl (c .before .before .pre .0) (c .if1 .taken)
+returns c = λ present b is k. back-only present b _ k is (c .before .wide .ensures .0) refl (c .before .before .pre .0) (c .if1 .taken)
 
-mul-wide : tie.Need-mul-wide
-mul-wide c = omega (arith, c .before .broad .ensures .0, c .before .before .pre .1, c .before .before .pre .3)
+mul-told : tie.Need-mul-told
+mul-told c = omega (arith, c .before .wide .ensures .0, c .before .before .pre .1, c .before .before .pre .3)
 
-element-copy-out-wide : tie.Need-element-copy-out-wide
-element-copy-out-wide c = omega (arith, c .before .broad .ensures .0, c .before .before .pre .1, c .before .before .pre .3)
+element-copy-out-told : tie.Need-element-copy-out-told
+element-copy-out-told c = omega (arith, c .before .wide .ensures .0, c .before .before .pre .1, c .before .before .pre .3)
 
-wide-requires : tie.Need-wide-requires
-wide-requires c κs = search needs
+told-requires : tie.Need-told-requires
+told-requires c κs = search needs
 
 returns-2 : tie.Need-returns-2
 returns-2 c = λ present b is k.
     let w = c .before .before in
-    back-several present b _ k is (w .before .before .before .broad .ensures .0) refl (w .wide .result) (w .wide .ensures .0)
+    back-several present b _ k is (w .before .before .before .wide .ensures .0) refl (w .told .result) (w .told .ensures .0)
     (c .before .if2 .taken) (c .if3 .taken)
 
 returns-3 : tie.Need-returns-3
 returns-3 c = λ present b is k.
     let w = c .before .before in
-    back-claim present b _ k is (w .before .before .before .broad .ensures .0) refl (w .wide .result) (w .wide .ensures .0)
+    back-claim present b _ k is (w .before .before .before .wide .ensures .0) refl (w .told .result) (w .told .ensures .0)
     (c .before .if2 .taken) (c .if3 .left)
 
 returns-4 : tie.Need-returns-4
@@ -44,20 +44,20 @@ returns-4 c = λ present b is k.
     let w = c .before in
     let s = w .before .before .before .before in
     let two : s .args .kind ≡ 2 = omega (arith, s .pre .0, s .pre .1, c .if2 .left) in
-    back-take present b _ k is (w .before .before .before .broad .ensures .0) refl (w .wide .result) (w .wide .ensures .0)
+    back-take present b _ k is (w .before .before .before .wide .ensures .0) refl (w .told .result) (w .told .ensures .0)
     two (w .before .before .if1 .left)
 
 pub back-spec : {M : Type 1} → statement M
 back-spec =
     tie.close
     (tie.spec
-    broad-requires
+    wide-requires
     add-left
     sub-left
     returns
-    mul-wide
-    element-copy-out-wide
-    wide-requires
+    mul-told
+    element-copy-out-told
+    told-requires
     returns-2
     returns-3
     returns-4)

@@ -11,9 +11,9 @@ use Rattle.replaying.proofs.write.Statement.{statement}
 use Rattle.replaying.proofs.write.Tie as tie
 use Rattle.replaying.proofs.write.Reads as reads
 use Rattle.replaying.proofs.write.Lts as lts
-use Rattle.replaying.proofs.broad.Reads as broad-reads
+use Rattle.steps.proofs.wide.Reads as wide-reads
 use Rattle.replaying.proofs.gain.Reads as gain-reads
-use Rattle.replaying.proofs.wide.Reads as wide-reads
+use Rattle.replaying.proofs.told.Reads as told-reads
 
 abbrev Inv-loop : tie.InvT-loop
 Inv-loop trace states₀ kept₀ at₀ moves₀ rooms₀ entry₀ states kept at moves rooms entry = Written trace states₀ states kept at moves rooms entry
@@ -22,7 +22,7 @@ abbrev μ-loop : tie.MeasureT-loop
 μ-loop trace states₀ kept₀ at₀ moves₀ rooms₀ entry₀ states kept at moves rooms entry = length trace - at
 
 abbrev claims : lts.Claims
-claims = (gain-reads.Asked, gain-reads.Learnt, broad-reads.Asked, broad-reads.Learnt, wide-reads.Asked, wide-reads.Learnt)
+claims = (gain-reads.Asked, gain-reads.Learnt, wide-reads.Asked, wide-reads.Learnt, told-reads.Asked, told-reads.Learnt)
 
 -- a turn of the loop, once its byte is read
 abbrev Turning : Type 0
@@ -75,15 +75,15 @@ array-write-kept c = omega (arith, grows c .room)
 add-at : tie.Need-add-at Inv-loop μ-loop
 add-at c = search needs
 
-broad-requires : tie.Need-broad-requires Inv-loop μ-loop
-broad-requires c κs = tt
+wide-requires : tie.Need-wide-requires Inv-loop μ-loop
+wide-requires c κs = tt
 
 -- the rooms that are left
-few : (c : lts.After-broad claims reads.Pre reads.Post Inv-loop μ-loop) → let l = at-loop (c .before .before) in
-    let left = l .loop .rooms + c .broad .result - 3 in (1 ≤ left) × (left ≤ 255)
+few : (c : lts.After-wide claims reads.Pre reads.Post Inv-loop μ-loop) → let l = at-loop (c .before .before) in
+    let left = l .loop .rooms + c .wide .result - 3 in (1 ≤ left) × (left ≤ 255)
 few c =
     let t = c .before .before in
-    left-small (standing t) (t .before .loop-test .taken) (c .before .if1 .left) (c .broad .ensures .0) refl
+    left-small (standing t) (t .before .loop-test .taken) (c .before .if1 .left) (c .wide .ensures .0) refl
 
 add-rooms-2 : tie.Need-add-rooms-2 Inv-loop μ-loop
 add-rooms-2 c = omega (arith, few c)
@@ -91,14 +91,14 @@ add-rooms-2 c = omega (arith, few c)
 sub-rooms : tie.Need-sub-rooms Inv-loop μ-loop
 sub-rooms c = omega (arith, few c)
 
-mul-wide : tie.Need-mul-wide Inv-loop μ-loop
-mul-wide c = omega (arith, few c)
+mul-told : tie.Need-mul-told Inv-loop μ-loop
+mul-told c = omega (arith, few c)
 
-array-read-wide : tie.Need-array-read-wide Inv-loop μ-loop
-array-read-wide c = omega (arith, few c)
+array-read-told : tie.Need-array-read-told Inv-loop μ-loop
+array-read-told c = omega (arith, few c)
 
-wide-requires : tie.Need-wide-requires Inv-loop μ-loop
-wide-requires c κs = tt
+told-requires : tie.Need-told-requires Inv-loop μ-loop
+told-requires c κs = tt
 
 add-at-2 : tie.Need-add-at-2 Inv-loop μ-loop
 add-at-2 c = search needs
@@ -112,8 +112,8 @@ moved c =
     elim (c .if1 .came) [
       | inl (one, known, gain, a, b, e, f) ↦
           moved-as s (moved-add s h (one .taken) (gained s h (one .taken) (gain .result) (gain .ensures .0))) a b e f
-      | inr (none, broad, wide, a, b, e, f) ↦
-          moved-as s (moved-back s h (none .left) (broad .ensures .0) refl (wide .result) (wide .ensures .0)) a b e f
+      | inr (none, wide, told, a, b, e, f) ↦
+          moved-as s (moved-back s h (none .left) (wide .ensures .0) refl (told .result) (told .ensures .0)) a b e f
     ]
 
 cast-states : tie.Need-cast-states Inv-loop μ-loop
@@ -161,12 +161,12 @@ write-spec =
     mul-kept
     array-write-kept
     add-at
-    broad-requires
+    wide-requires
     add-rooms-2
     sub-rooms
-    mul-wide
-    array-read-wide
-    wide-requires
+    mul-told
+    array-read-told
+    told-requires
     add-at-2
     cast-states
     mul-states
