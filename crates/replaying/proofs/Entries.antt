@@ -1,15 +1,18 @@
 -- Entries: they have 16 bits, and what a triple adds to one.
-use mathlib.Core.Bool.{true, false}
 use mathlib.Core.List.{List, _∷_}
 use mathlib.Core.Path.{_≡_, ap, subst, _∙_}
-use Prim.Native.Nat.{ℕ, zero, suc, _+_, _≤_}
+use Prim.Native.Nat.{ℕ, suc, _+_, _≤_}
 use native.Mathlib.Omega.{arith}
-use Rattle.record.specs.Triple.{Triple, triple}
-use Rattle.record.specs.Walk.{Counts, step, andThen}
+use Rattle.record.specs.Triple.{Triple}
+use Rattle.record.specs.Way.{up, down}
+use Rattle.record.specs.Decode.{bitsOf}
+use Rattle.record.specs.Walk.{Counts, missing, counts, step, andThen}
 use Rattle.record.specs.Read.{Missing}
 use Rattle.traces.specs.State.{countsOf, runsIn, entryOf}
 use Rattle.traces.specs.Newest.{counts-add}
 use Rattle.traces.specs.Still.{Built, built-few, counted, built-runs}
+use Rattle.steps.specs.Told.{bit-le}
+use Rattle.steps.specs.Table.{Meets, step-meets, once-risen}
 use Rattle.replaying.specs.Packed.{gainOf}
 
 module _ {present : List Triple} (b : Built present) where
@@ -17,19 +20,11 @@ module _ {present : List Triple} (b : Built present) where
   entry-small = omega (arith, built-runs b, built-few b)
 
 gains : (t : Triple) (p q : ℕ) → ¬ Missing (step t p q) → 256 + runsIn (step t p q) ≡ suc (p + q) + gainOf t
-unfolding step
-gains (triple false false false) p q h = omega arith
-gains (triple false true false) p q h = omega arith
-gains (triple true false false) p zero h = absurd (h tt)
-gains (triple true false false) p (suc q) h = omega arith
-gains (triple true true false) p zero h = absurd (h tt)
-gains (triple true true false) p (suc q) h = omega arith
-gains (triple false false true) p q h = omega arith
-gains (triple true false true) p q h = omega arith
-gains (triple false true true) zero q h = absurd (h tt)
-gains (triple false true true) (suc p) q h = omega arith
-gains (triple true true true) zero q h = absurd (h tt)
-gains (triple true true true) (suc p) q h = omega arith
+gains t p q there = go (step t p q) (step-meets t p q) there
+  where
+    go : (c : Counts) → Meets t p q c → ¬ Missing c → 256 + runsIn c ≡ suc (p + q) + gainOf t
+    go missing m h = absurd (h tt)
+    go (counts p-next q-next) m h = omega (arith, m, once-risen t, bit-le (bitsOf t down), bit-le (bitsOf t up))
 
 pub entry-added : (t : Triple) {present : List Triple} → Built present → ¬ Missing (countsOf (t ∷ present))
     → entryOf (t ∷ present) ≡ entryOf present + gainOf t

@@ -1,6 +1,6 @@
 -- The move that begins at a place of a trace, by the byte there and the next one.
 use mathlib.Core.List.{List, [], _∷_}
-use mathlib.Core.Logic.{inl, inr, _≢_, if-pos, if-neg}
+use mathlib.Core.Logic.{inl, inr, _≢_, if-pos}
 use mathlib.Core.Path.{_≡_, refl, sym, ap, _∙_}
 use Prim.Native.Nat.{ℕ, zero, suc, _+_, _≤_, _<_}
 use native.Mathlib.Decide.{decLt}
@@ -8,6 +8,7 @@ use native.Mathlib.Omega.{arith}
 use lib.ListN.{length, getD, drop, drop-of-length-le}
 use lib.Seq.{drop-cons}
 use Rattle.record.specs.TripleNumber.{tripleOf}
+use Rattle.traces.specs.Bytes.{unknown-kind, missing-body, above-7, bad→unknown}
 use Rattle.replaying.specs.Turn.{backMove, Body}
 use Rattle.traces.specs.Move.{add, take-away, claim, unknown, movesOf}
 
@@ -20,7 +21,7 @@ module _ (xs : List ℕ) (at : ℕ) (h : at < length xs) where
   -- kind 1
   pub one-alone : getD xs at 0 ≡ 1 → length xs ≤ at + 1 → movesOf (drop at xs) ≡ unknown ∷ []
   one-alone e l =
-      ap movesOf (begins-with 1 e ∙ ap (λ (ys : List ℕ). 1 ∷ ys) (drop-of-length-le xs {i = at + 1} l)) ∙ (unfold movesOf in refl)
+      ap movesOf (begins-with 1 e ∙ ap (λ (ys : List ℕ). 1 ∷ ys) (drop-of-length-le xs {i = at + 1} l)) ∙ bad→unknown missing-body
 
   module _ (e : getD xs at 0 ≡ 1) (l : at + 1 < length xs) where
     one-and-body : drop at xs ≡ 1 ∷ (getD xs (at + 1) 0 ∷ drop (at + 2) xs)
@@ -32,7 +33,7 @@ module _ (xs : List ℕ) (at : ℕ) (h : at < length xs) where
     one-small small = ap movesOf one-and-body ∙ (unfold movesOf in if-pos (decLt (getD xs (at + 1) 0) 8) small _ _)
 
     pub one-large : ¬ (getD xs (at + 1) 0 < 8) → movesOf (drop at xs) ≡ unknown ∷ []
-    one-large large = ap movesOf one-and-body ∙ (unfold movesOf in if-neg (decLt (getD xs (at + 1) 0) 8) large _ _)
+    one-large large = ap movesOf one-and-body ∙ bad→unknown (above-7 large)
 
   -- by the body that was read, or that is missing
   module _ (e : getD xs at 0 ≡ 1) {body : ℕ} where
@@ -62,11 +63,4 @@ module _ (xs : List ℕ) (at : ℕ) (h : at < length xs) where
   back-begins (suc (suc (suc (suc kind)))) e a b = absurd (omega arith)
 
   pub other : getD xs at 0 ≢ 1 → getD xs at 0 ≢ 2 → getD xs at 0 ≢ 3 → movesOf (drop at xs) ≡ unknown ∷ []
-  other a b c = ap movesOf (begins-with (getD xs at 0) refl) ∙ go (getD xs at 0) (drop (at + 1) xs) a b c
-    where
-      go : (k : ℕ) (rest : List ℕ) → k ≢ 1 → k ≢ 2 → k ≢ 3 → movesOf (k ∷ rest) ≡ unknown ∷ []
-      go zero rest a b c = unfold movesOf in refl
-      go (suc zero) rest a b c = absurd (a refl)
-      go (suc (suc zero)) rest a b c = absurd (b refl)
-      go (suc (suc (suc zero))) rest a b c = absurd (c refl)
-      go (suc (suc (suc (suc k)))) rest a b c = unfold movesOf in refl
+  other a b c = ap movesOf (begins-with (getD xs at 0) refl) ∙ bad→unknown (unknown-kind a b c)

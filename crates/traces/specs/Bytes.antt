@@ -1,6 +1,5 @@
 -- Rows of moves as bytes: each row of moves that are known is that of some bytes, and the first moves of a trace are those of its first
 -- bytes.
-use mathlib.Core.Bool.{true, false}
 use mathlib.Core.List.{List, [], _∷_}
 use mathlib.Core.Logic.{_≢_, ite, if-pos, if-neg}
 use mathlib.Core.Path.{_≡_, refl, sym, ap, subst, _∙_}
@@ -10,7 +9,8 @@ use native.Mathlib.Omega.{arith}
 use lib.ListN.{length, take}
 use Rattle.bits.specs.Bit.{bit}
 use Rattle.record.specs.Triple.{Triple, triple}
-use Rattle.record.specs.TripleNumber.{tripleOf}
+use Rattle.record.specs.TripleNumber.{tripleOf, triple-of-bits}
+use Rattle.steps.specs.Told.{bit-le}
 use Rattle.traces.specs.Move.{Move, add, take-away, claim, unknown, movesOf}
 
 -- a triple as a number, "with the first bit worth 4"
@@ -35,14 +35,10 @@ Known (unknown ∷ moves) = ⊥
 
 read-add : (t : Triple) (rest : List ℕ) → movesOf (1 ∷ (tripleNumber t ∷ rest)) ≡ add t ∷ movesOf rest
 unfolding movesOf
-read-add (triple false false false) rest = refl
-read-add (triple false false true) rest = refl
-read-add (triple false true false) rest = refl
-read-add (triple false true true) rest = refl
-read-add (triple true false false) rest = refl
-read-add (triple true false true) rest = refl
-read-add (triple true true false) rest = refl
-read-add (triple true true true) rest = refl
+read-add (triple first second third) rest =
+    let number : ℕ = 4 * bit first + 2 * bit second + bit third in
+    let small : number < 8 = omega (arith, bit-le first, bit-le second, bit-le third) in
+    if-pos (decLt number 8) small _ _ ∙ ap (λ (t : Triple). add t ∷ movesOf rest) (triple-of-bits first second third)
 
 pub moves-of-bytes : (moves : List Move) → Known moves → movesOf (bytesOf moves) ≡ moves
 unfolding movesOf

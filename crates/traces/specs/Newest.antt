@@ -1,13 +1,14 @@
 -- The newest triple is the last step of the walk, so a state's counts come from those of the state before it by one step.
-use mathlib.Core.Bool.{true, false}
+use mathlib.Core.Bool.{false}
 use mathlib.Core.List.{List, [], _∷_}
 use mathlib.Core.Path.{_≡_, ap, ap₂}
-use Prim.Native.Nat.{ℕ, zero, suc, _+_, _-_, _≤_, _<_}
+use Prim.Native.Nat.{ℕ, suc, _+_, _-_, _≤_, _<_}
 use native.Mathlib.Omega.{arith}
 use lib.ListN.{length, getD}
 use Rattle.record.specs.Triple.{Triple, triple}
 use Rattle.record.specs.Walk.{Counts, missing, counts, step, andThen, walk}
 use Rattle.record.specs.Demand2Read.{walk-same}
+use Rattle.steps.specs.Table.{Meets, step-meets, once-risen}
 use Rattle.traces.specs.State.{roomsOf, presentAt, countsOf}
 
 module _ (t : Triple) (present : List Triple) where
@@ -33,19 +34,11 @@ Grows p q missing = Unit
 Grows p q (counts p-next q-next) = p-next + q-next ≤ suc (p + q)
 
 step-grows : (t : Triple) (p q : ℕ) → Grows p q (step t p q)
-unfolding step
-step-grows (triple false false false) p q = omega arith
-step-grows (triple false true false) p q = omega arith
-step-grows (triple true false false) p zero = tt
-step-grows (triple true false false) p (suc q) = omega arith
-step-grows (triple true true false) p zero = tt
-step-grows (triple true true false) p (suc q) = omega arith
-step-grows (triple false false true) p q = omega arith
-step-grows (triple true false true) p q = omega arith
-step-grows (triple false true true) zero q = tt
-step-grows (triple false true true) (suc p) q = omega arith
-step-grows (triple true true true) zero q = tt
-step-grows (triple true true true) (suc p) q = omega arith
+step-grows t p q = go (step t p q) (step-meets t p q)
+  where
+    go : (c : Counts) → Meets t p q c → Grows p q c
+    go missing m = tt
+    go (counts p-next q-next) m = omega (arith, m, once-risen t)
 
 -- so there are at most as many runs as rooms
 abbrev Few : ℕ → Counts → Type 0
