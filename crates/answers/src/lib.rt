@@ -1,4 +1,6 @@
 // Reading a record for Record in: its labels, and the corners of its rooms.
+#![tactic(auto)]
+
 ghost use Rattle.std.specs.Prelude.{◌≡◌, suc, ◌<◌, min, length};
 ghost use Rattle.drawing.specs.Corners.{room_in};
 ghost use Rattle.answers.specs.Corners.{corners, CornersIn};
@@ -8,7 +10,7 @@ use reading::Reading;
 use record::Refusal;
 
 // What Record in answers: the number of rooms, or why not.
-#[derive(Drop)]
+#[derive(Clone, Copy)]
 pub enum RecordAnswer {
     Read(usize),
     Refused(Refusal),

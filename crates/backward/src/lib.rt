@@ -1,4 +1,6 @@
 // The walk back from a record's last triple, which gives the labels, the rights and the tops.
+#![tactic(auto)]
+
 ghost use Rattle.std.specs.Prelude.{◌≡◌, ◌≤◌, ◌<◌, length};
 ghost use Rattle.record.specs.Walk.{Accepted};
 ghost use Rattle.record.specs.Record.{body_length, triple_in};

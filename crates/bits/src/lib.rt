@@ -1,5 +1,7 @@
 // Groups of three bits in a slice of bytes, the highest bit of a byte first: one group read, and one group set; or eight groups read.
 // A group lies in one byte or crosses into the next. Either way it is shifted and masked in a word of 16 bits.
+#![tactic(auto)]
+
 ghost use Rattle.std.specs.Prelude.{◌≡◌, ◌+◌, ◌*◌, ◌<◌, ◌≤◌, length};
 ghost use Rattle.bits.specs.Bit.{group_at, GroupSet};
 ghost use Rattle.bits.specs.Word.{Shows, Stored};

@@ -1,4 +1,6 @@
 // Reading on in a book of records, and adding to it.
+#![tactic(auto)]
+
 ghost use Rattle.std.specs.Prelude.{◌≡◌, ◌+◌, ◌≤◌, length};
 ghost use Rattle.finite.specs.Decide.{Tells};
 ghost use Rattle.book.specs.Book.{front, longest};
@@ -70,7 +72,7 @@ pub fn next_record(book: &[u8], used: usize, place: usize) -> &[u8]
 }
 
 // A book's totals: plans, rooms and falls; or its first bad record's refusal and ordinal.
-#[derive(Drop)]
+#[derive(Clone, Copy)]
 enum BookSum {
     Summed(usize, usize, usize),
     BadRecord(Refusal, usize),
@@ -104,7 +106,7 @@ fn sum_up(book: &[u8]) -> BookSum
 }
 
 // A summary as it is handed in.
-#[derive(Drop)]
+#[derive(Clone, Copy)]
 struct Totals {
     plans: u32,
     rooms: u32,
@@ -140,7 +142,7 @@ fn same(totals: Totals, plans: usize, rooms: usize, falls: usize) -> bool
 }
 
 // Whether a record may be added: the new used length, and the record's rooms and falls; or why not.
-#[derive(Drop)]
+#[derive(Clone, Copy)]
 enum Admission {
     Admitted(usize, usize, usize),
     BadRecord(Refusal, usize),

@@ -1,4 +1,6 @@
 // The causes 2 to 5 of a room list, decided on its rooms' corners: four lists of one length, each corner at the room's place.
+#![tactic(auto)]
+
 ghost use Rattle.std.specs.Prelude.{◌≡◌, ◌+◌, ◌*◌, ◌≤◌, ◌<◌, length};
 ghost use Rattle.finite.specs.Decide.{Tells};
 ghost use Rattle.rooms.specs.Causes.{RoomSize, ShareSquare, Overlap, Uncovered};
@@ -14,7 +16,7 @@ ghost use Rattle.corners.specs.ListPlan.{rooms_from, list_plan, outline_of};
 use drawing::Room;
 
 // The first cause that a room list has in the order 2, 3, 4, 5, or that it has none of them.
-#[derive(Drop)]
+#[derive(Clone, Copy)]
 pub enum Verdict {
     Accepted,
     RoomSize,
@@ -153,7 +155,7 @@ fn areas(left: &[u16], bottom: &[u16], right: &[u16], top: &[u16]) -> u64
 }
 
 // How the areas of the rooms, added up, stand to the outline's own.
-#[derive(Drop)]
+#[derive(Clone, Copy)]
 enum Filling {
     Less,
     Same,

@@ -1,4 +1,6 @@
 // The number that each call of the C interface returns for its answer.
+#![tactic(auto)]
+
 ghost use Rattle.std.specs.Prelude.{false, ◌≡◌, ◌^◌, ◌≤◌, ◌<◌};
 ghost use Rattle.answers.specs.Answer.{Few};
 ghost use Rattle.slicing.specs.Answer.{Few as TreeFew};

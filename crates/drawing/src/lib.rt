@@ -1,4 +1,6 @@
 // A room of a floorplan, and how two rooms stand to each other. The definitions of the grid drawing and its theorems stand in specs/.
+#![tactic(auto)]
+
 ghost use Rattle.std.specs.Prelude.{◌≡◌, ◌≢◌, ◌⊎◌, suc, ◌≤◌, ◌<◌, length};
 ghost use Rattle.finite.specs.Decide.{Tells};
 ghost use Rattle.record.specs.Labels.{label_at};
@@ -12,7 +14,7 @@ use record::Position;
 // than left and top greater than bottom; y grows upward." "A room now carries a 16-bit
 // name beside its four corners. Name 0 means unnamed and may occur often." (M-106)
 #[repr(C)]
-#[derive(Drop)]
+#[derive(Clone, Copy)]
 pub struct Room {
     pub left: u16,
     pub bottom: u16,
@@ -23,7 +25,7 @@ pub struct Room {
 
 // "The relation (left, right, above, below) of the first to the second": the first room
 // is left of the second, right of it, above it or below it.
-#[derive(Drop)]
+#[derive(Clone, Copy)]
 pub enum Side {
     Left,
     Right,
@@ -33,7 +35,7 @@ pub enum Side {
 
 // "The relation of two positions shall say whether it is direct, by one segment that holds
 // their facing edges, or only through a chain of more steps."
-#[derive(Drop)]
+#[derive(Clone, Copy)]
 pub struct Relation {
     pub side: Side,
     pub direct: bool,

@@ -1,4 +1,6 @@
 // Record in: a record gives its labels, and its rooms as structs.
+#![tactic(auto)]
+
 ghost use Rattle.std.specs.Prelude.{◌++◌, ◌≡◌, ◌≤◌, length, drop};
 ghost use Rattle.answers.specs.Answer.{count_of, Few, slices, RecordIn};
 ghost use Rattle.answers.specs.Corners.{corners, rooms_from};

@@ -1,4 +1,6 @@
 // The record of a label list in one pass, which also finds whether the list is Baxter.
+#![tactic(auto)]
+
 ghost use Rattle.std.specs.Prelude.{◌≡◌, ◌+◌, ◌*◌, ◌≤◌, ◌<◌, length, replicate};
 ghost use Rattle.bits.specs.Bit.{bit};
 ghost use Rattle.finite.specs.Decide.{Tells};

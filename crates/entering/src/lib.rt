@@ -1,5 +1,7 @@
 // Rooms in, on rooms that were copied: a room list becomes its record, the label and the position of each room, and the names by position;
 // or it is refused with 2, 3, 4, 5, 20 or 15, in this order.
+#![tactic(auto)]
+
 ghost use Rattle.std.specs.Prelude.{◌≡◌, ◌+◌, ◌*◌, ◌≤◌, length, get_or};
 ghost use Rattle.points.specs.Paired.{Unpaired};
 ghost use Rattle.naming.specs.Twice.{Twice};
@@ -12,7 +14,7 @@ use checks::Verdict;
 use record::{LabelsAnswer, Refusal};
 
 // What Rooms in answers: the record's length, or why not.
-#[derive(Drop)]
+#[derive(Clone, Copy)]
 pub enum RoomsAnswer {
     Wrote(usize),
     Refused(Refusal),

@@ -1,7 +1,7 @@
 -- The sum of f i over the numbers i with a ≤ i < e, and its laws: it grows with its summands, it splits at a middle
 -- point, and equal summands give equal sums.
 use Rattle.std.specs.Prelude.{cond, ◌≡◌, refl, ℕ, zero, suc, ◌+◌, ◌-◌, ◌≤◌, ◌<◌, leb}
-use Rattle.std.proofs.Common.{inl, inr, eq-or-lt_of_le, le_of_suc-le-suc, arith, le-leb}
+use Rattle.std.proofs.Common.{ap, ◌∙◌, inl, inr, eq-or-lt_of_le, le_of_suc-le-suc, arith, le-leb}
 use Rattle.std.proofs.lemmas.Bool.{lt-leb}
 use Rattle.finite.specs.Decide.{le_or_lt}
 use Rattle.finite.specs.Search.{Each}
@@ -27,7 +27,7 @@ pub sum_split : (f : ℕ → ℕ) (a m e : ℕ) → a ≤ m → m ≤ e → sum 
 unfolding sum
 sum_split f a m zero h l = omega (arith, sum_empty f a m (omega arith))
 sum_split f a m (suc e) h l = elim (eq-or-lt_of_le l) [
-  | inl q ↦ rw q (omega (arith, sum_empty f (suc e) (suc e) (omega arith)))
+  | inl q ↦ ap (λ (x : ℕ). sum f a x + sum f x (suc e)) q ∙ omega (arith, sum_empty f (suc e) (suc e) (omega arith))
   | inr k ↦ omega (arith, sum_split f a m e h (le_of_suc-le-suc k), sum_last f m e (omega arith), sum_last f a e (omega arith))
 ]
 

@@ -1,4 +1,6 @@
 // The walk along a record's triples from the front, with what is noted of each position on the way.
+#![tactic(auto)]
+
 ghost use Rattle.std.specs.Prelude.{◌≡◌, ◌-◌, ◌≤◌, length};
 ghost use Rattle.record.specs.Walk.{walk};
 ghost use Rattle.record.specs.Record.{body_length, triple_in};

@@ -1,4 +1,6 @@
 // Whole groups at once: how the rooms of one group stand to those of another one.
+#![tactic(auto)]
+
 ghost use Rattle.std.specs.Prelude.{◌⊎◌, ◌≡◌, ◌*◌, ◌≤◌, ◌<◌};
 ghost use Rattle.std.specs.Int.Bits.{bit_and};
 ghost use Rattle.finite.specs.Decide.{Tells};

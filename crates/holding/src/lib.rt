@@ -1,4 +1,6 @@
 // Rooms of real sizes, held against the relations of a plan in one walk along the triples of a record's body.
+#![tactic(auto)]
+
 ghost use Rattle.std.specs.Prelude.{◌≡◌, ◌+◌, ◌≤◌, max, length};
 ghost use Rattle.finite.specs.Decide.{Tells};
 ghost use Rattle.judging.specs.Walkable.{labels_in, Walkable};

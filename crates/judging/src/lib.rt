@@ -1,5 +1,7 @@
 // Judging a record without reading its labels: how many rooms and falls it has, or the refusal 9, 10, 11, 14, 12 or 13, in this
 // order. The checks before and after the walk are public, since reading the labels has the same.
+#![tactic(auto)]
+
 ghost use Rattle.std.specs.Prelude.{◌≡◌, true, ◌⊎◌, ◌+◌, ◌-◌, ◌*◌, ◌/◌, ◌%◌, ◌≤◌, ◌<◌, length};
 ghost use Rattle.finite.specs.Decide.{Tells};
 ghost use Rattle.finite.specs.Search.{Some};
@@ -30,7 +32,7 @@ fn spare_bit(body: &[u8], used: usize) -> bool
 }
 
 // What a check of a record answers: how many rooms the record has, or why not.
-#[derive(Drop)]
+#[derive(Clone, Copy)]
 pub enum Checked {
     Passed(usize),
     Refused(Refusal),
@@ -118,7 +120,7 @@ fn lacks(tally: usize) -> bool
 }
 
 // The word after some steps of the walk; or a triple needs a run that is missing.
-#[derive(Drop)]
+#[derive(Clone, Copy)]
 enum Steps {
     Tally(usize),
     Missing,
@@ -160,7 +162,7 @@ fn walk_words(body: &[u8], words: usize) -> Steps
 }
 
 // What the walk gives where no labels are read: the counts of runs at its end, and the falls.
-#[derive(Drop)]
+#[derive(Clone, Copy)]
 struct Tally {
     counts: RunCounts,
     falls: usize,
@@ -187,7 +189,7 @@ fn count_walk(body: &[u8], n: usize) -> Tally
 }
 
 // What judging a record answers: how many rooms it has and how many falls; or why not.
-#[derive(Drop)]
+#[derive(Clone, Copy)]
 pub enum Judged {
     Accepted(usize, usize),
     Refused(Refusal),

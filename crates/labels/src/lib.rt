@@ -1,5 +1,7 @@
 // Labels in: a label list becomes its record, or is refused with 1, 6, 7, 8 or 15, in this order. And the verdict on a label list
 // alone: 1, 6, 7, 8 or sound.
+#![tactic(auto)]
+
 ghost use Rattle.std.specs.Prelude.{◌≡◌, ◌≤◌, length};
 ghost use Rattle.finite.specs.Decide.{Tells};
 ghost use Rattle.record.specs.Labels.{LabelOutside, LabelTwice};
@@ -9,7 +11,7 @@ ghost use Rattle.labels.specs.Verdict.{verdict_of};
 use record::{LabelsAnswer, Refusal};
 
 // What the causes of a label list give: none of them holds, or the first one's refusal.
-#[derive(Drop)]
+#[derive(Clone, Copy)]
 pub enum Verdict {
     Sound,
     Refused(Refusal),

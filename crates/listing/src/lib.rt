@@ -1,4 +1,6 @@
 // Puts the listing of a plan: a header line, then a line for each position.
+#![tactic(auto)]
+
 ghost use Rattle.std.specs.Prelude.{◌+◌, ◌*◌, ◌≤◌, length};
 ghost use Rattle.finite.specs.Put.{Put};
 ghost use Rattle.text.specs.Places.{Places, view_in};

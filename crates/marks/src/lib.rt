@@ -1,5 +1,7 @@
 // Marks for the labels 0 to 255 that have been seen, in 32 bytes, one bit each. Labels next to each other have their bits in different
 // bytes: so a label rarely waits for the byte in which the one before it was just marked.
+#![tactic(auto)]
+
 ghost use Rattle.std.specs.Prelude.{◌≡◌, ◌*◌, ◌^◌, ◌≤◌, ◌<◌, length};
 ghost use Rattle.std.specs.Int.Bits.{bit_or};
 ghost use Rattle.finite.specs.Decide.{Tells};

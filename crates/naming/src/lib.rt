@@ -1,4 +1,6 @@
 // The names of rooms: whether one nonzero name stands on two rooms, and the names by position.
+#![tactic(auto)]
+
 ghost use Rattle.std.specs.Prelude.{◌≡◌, ℕ, ◌/◌, ◌≤◌, ◌<◌, length, get_or};
 ghost use Rattle.finite.specs.Decide.{Tells};
 ghost use Rattle.finite.specs.Fill.{filled};

@@ -1,5 +1,7 @@
 // The C interface: the public calls as exported functions, and nothing else. A slice is a pointer and its length. What a call does is
 // proved of the function that it calls, and which number its answer is, in the crate `codes`.
+#![tactic(auto)]
+
 ghost use Rattle.std.specs.Prelude.{◌≡◌};
 ghost use Rattle.record.specs.Answer.{LabelsIn};
 ghost use Rattle.patterns.specs.Answer.{pattern_answer};

@@ -1,5 +1,7 @@
 // The numbers of a line: in one pass the form is checked and it is noted where each number begins, and then the numbers are read. There
 // is no branch on what a byte is, since nobody can foresee what many hands have typed.
+#![tactic(auto)]
+
 ghost use Rattle.std.specs.Prelude.{◌≡◌, ◌≤◌, length, get_or, drop, replicate};
 ghost use Rattle.bits.specs.Bit.{bit};
 ghost use Rattle.labeltext.specs.Symbol.{symbol_of};
@@ -8,7 +10,7 @@ ghost use Rattle.numbers.specs.Number.{number_in, as_byte};
 ghost use Rattle.numbers.specs.Store.{Starts, Gathered, Labelled, ReadAs};
 
 // What reading a line gives: how many numbers it lists, that they are more than 255, or that it breaks the form.
-#[derive(Drop)]
+#[derive(Clone, Copy)]
 pub enum Reading {
     Listed(usize),
     Many,

@@ -1,5 +1,7 @@
 // Label and position of each room of an accepted list, and its label list. Both orders are walked from the first room by links between
 // rooms at their corners, which the pairs of all corners are.
+#![tactic(auto)]
+
 ghost use Rattle.std.specs.Prelude.{◌≡◌, List, ℕ, ◌*◌, ◌≤◌, length, take};
 ghost use Rattle.finite.specs.Fill.{filled};
 ghost use Rattle.drawing.specs.declared.Room.{Room};

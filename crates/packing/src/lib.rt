@@ -1,4 +1,6 @@
 // Rooms of real sizes: the lowest corners of a record's rooms, the slack of an outline, and whether a placing honours all relations.
+#![tactic(auto)]
+
 ghost use Rattle.std.specs.Prelude.{◌≡◌, ◌<◌, pos, ◌-ℤ◌, length};
 ghost use Rattle.finite.specs.Decide.{Tells};
 ghost use Rattle.sizes.specs.Lists.{each_way};

@@ -1,4 +1,6 @@
 // Puts the picture of a plan: the head, then the rooms, then the inner segments.
+#![tactic(auto)]
+
 ghost use Rattle.std.specs.Prelude.{◌+◌, ◌*◌, ◌≤◌, length};
 ghost use Rattle.finite.specs.Put.{Put};
 ghost use Rattle.text.specs.Places.{view_in};

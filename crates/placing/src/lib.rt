@@ -1,4 +1,6 @@
 // Rooms of real sizes, placed in one walk along the triples of a record's body: their lowest corners, and the needed lengths.
+#![tactic(auto)]
+
 ghost use Rattle.std.specs.Prelude.{◌≡◌, ◌+◌, ◌≤◌, max, length};
 ghost use Rattle.record.specs.Labels.{label_at};
 ghost use Rattle.sizes.specs.Direction.{across, upward};
@@ -30,7 +32,7 @@ fn larger(a: u32, b: u32) -> u32
 // the other of the two where the triple joins it to that.
 
 // The needed length each way.
-#[derive(Drop)]
+#[derive(Clone, Copy)]
 pub struct Needed {
     pub across: u32,
     pub up: u32,

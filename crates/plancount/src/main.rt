@@ -1,5 +1,7 @@
 // Prints how many plans there are: for 1 to 17 rooms, how many accepted records have 0, 1, 2 .. rises.
 // The whole text is put into one array and then written at once: `put_text` states that it is the request's, byte for byte.
+#![tactic(auto)]
+
 ghost use Rattle.std.specs.Prelude.{◌≡◌, ◌+◌, ◌*◌, ◌≤◌, ◌<◌, length, take};
 ghost use Rattle.io.specs.Counts.{IsPrefixLen};
 ghost use Rattle.finite.specs.Put.{Put};

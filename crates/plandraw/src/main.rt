@@ -1,5 +1,7 @@
 // Draws the plan of one record: reads it from standard input and prints its grid drawing as SVG, or why it is refused.
 // The whole text is put into one array and then written at once: `put_picture` states that it is the picture, byte for byte.
+#![tactic(auto)]
+
 ghost use Rattle.std.specs.Prelude.{◌≡◌, ◌≤◌, length, take};
 ghost use Rattle.io.specs.Counts.{IsPrefixLen};
 ghost use Rattle.shapes.specs.Picture.{picture_of};

@@ -1,5 +1,7 @@
 // Lists the rooms of one record: reads it from standard input and prints its rooms by position, or why it is refused.
 // The whole text is put into one array and then written at once: `put_text` states that it is the sheet's, byte for byte.
+#![tactic(auto)]
+
 ghost use Rattle.std.specs.Prelude.{◌≡◌, ◌≤◌, length, take};
 ghost use Rattle.io.specs.Counts.{IsPrefixLen};
 ghost use Rattle.listing.specs.Text.{text_of};

@@ -1,4 +1,6 @@
 // Rooms in, on rooms lent as structs: a thin entry, which copies their numbers and chooses the size of the working arrays.
+#![tactic(auto)]
+
 ghost use Rattle.std.specs.Prelude.{◌≡◌, length};
 ghost use Rattle.entering.specs.Answer.{slices, RoomsIn};
 ghost use Rattle.entering.specs.Copied.{put, copied_rooms};

@@ -1,4 +1,6 @@
 // The question: how two rooms of a record stand to each other, whether directly, and whether they touch.
+#![tactic(auto)]
+
 ghost use Rattle.std.specs.Prelude.{◌≡◌, ◌-◌, ◌≤◌};
 ghost use Rattle.finite.specs.Decide.{Tells};
 ghost use Rattle.drawing.specs.Corners.{room_in};
@@ -9,7 +11,7 @@ use reading::Reading;
 use record::{Position, Refusal};
 
 // What the question answers: the relation of the first room to the second and whether they touch, or why not.
-#[derive(Drop)]
+#[derive(Clone, Copy)]
 pub enum QuestionAnswer {
     Related(Relation, bool),
     Refused(Refusal),

@@ -1,4 +1,6 @@
 // Reading a record: its labels, or the refusal 9, 10, 11, 14, 12 or 13, in this order.
+#![tactic(auto)]
+
 ghost use Rattle.std.specs.Prelude.{◌≡◌, ◌≤◌, ◌<◌, length};
 ghost use Rattle.backward.specs.Written.{Written};
 ghost use Rattle.reading.specs.Answer.{reading_of, Reads, Ready, triples_of, Leaves};
@@ -7,7 +9,7 @@ use judging::Checked;
 use record::Refusal;
 
 // What reading a record answers: how many labels it gives, or why not.
-#[derive(Drop)]
+#[derive(Clone, Copy)]
 pub enum Reading {
     Read(usize),
     Refused(Refusal),

@@ -14,7 +14,7 @@ use Rattle.record.specs.Labels.{label_at, EachOnce}
 use Rattle.record.specs.Barred.{Barred}
 use Rattle.record.specs.Triple.{Triple, triple, triple_at}
 use Rattle.record.specs.Walk.{Counts, missing, counts, step, and_then, walk, Accepted}
-use Rattle.record.specs.Way.{Way, up, down, other, Past, same}
+use Rattle.record.specs.Way.{Way, up, down, other, Past, same, both}
 use Rattle.record.specs.Sides.{Run, rest_of, Front, Joined, apart, joined}
 use Rattle.record.specs.Runs.{Runs, runs_same, inside_past, facing, ahead, Step, nothing_past, fronts, step_fresh, step_tells, reach_chained, one_way}
 use Rattle.record.specs.Decode.{bits_of, turn_of, Sizes, sizes_ahead, joined_size, grow_sizes, sizes_after, lower_size, take_out, runs_but, label_of, decode}
@@ -341,7 +341,7 @@ module _ (f : ℕ → ℕ) (t : ℕ → Triple) (m : ℕ) (each : EachOnce f (su
   own_runs zero k e =
       let h : suc k ≡ suc m = omega arith in
       let r = ends f (suc m) each next k h in
-      runs_same (λ way. elim way [ up ↦ sym r.1 | down ↦ sym r.0 ]) (λ way. sym (no_run_left f (suc m) each next k h way))
+      runs_same (both _ (sym r.1) (sym r.0)) (λ way. sym (no_run_left f (suc m) each next k h way))
   own_runs (suc d) k e =
       let i : suc m - d ≡ suc (suc k) = omega arith in
       ap (λ (j : ℕ). take_out (t j) (lower_size t j) (runs_but t (suc m) d)) i

@@ -11,7 +11,7 @@ use Rattle.finite.specs.Decide.{eq_or_ne}
 use Rattle.record.specs.Labels.{label_at}
 use Rattle.record.specs.Triple.{Triple, triple}
 use Rattle.record.specs.Walk.{Accepted}
-use Rattle.record.specs.Way.{Way, up, down, Past, past_trans, past_not_back}
+use Rattle.record.specs.Way.{Way, up, down, Past, past_trans, past_not_back, both}
 use Rattle.record.specs.Sides.{Run, Side, more, Front, open_front, run_front, Joined, none, apart, joined, far_past}
 use Rattle.record.specs.Runs.{Runs, inside_past, ahead, fresh_past}
 use Rattle.record.specs.Decode.{turn_of, decode}
@@ -75,12 +75,12 @@ entered_before_lem : (f : ℕ → ℕ) (n m : ℕ) (u : Triple) (y : Entered) {p
     → Entry (turn_of u) f n m (z.edge (turn_of u)) p → AllEntered f n m z (entered_before u p y)
 unfolding entered_before
 entered_before_lem f n m (triple first second false) y met onward = record {
-  current = λ way. elim way [ up ↦ onward | down ↦ first_entry f n m (met down) ];
-  others = λ way. elim way [ up ↦ met up | down ↦ other_entries f n m (met down) ];
+  current = both _ onward (first_entry f n m (met down));
+  others = both _ (met up) (other_entries f n m (met down));
 }
 entered_before_lem f n m (triple first second true) y met onward = record {
-  current = λ way. elim way [ up ↦ first_entry f n m (met up) | down ↦ onward ];
-  others = λ way. elim way [ up ↦ other_entries f n m (met up) | down ↦ met down ];
+  current = both _ (first_entry f n m (met up)) onward;
+  others = both _ (other_entries f n m (met up)) (met down);
 }
 
 -- what is first beyond the current run is first beyond its newest label

@@ -7,7 +7,7 @@ use Rattle.std.proofs.Math.Bool.{true, false}
 use mathlib.Core.List.{List, [], ◌∷◌}
 use native.Mathlib.Omega.{arith}
 use Rattle.record.specs.Triple.{Triple, triple}
-use Rattle.record.specs.Way.{Way, up, down, other, Past, Beside, past_trans, past_not_self, past_not_back, past_turn, beside_tight}
+use Rattle.record.specs.Way.{Way, up, down, other, Past, Beside, past_trans, past_not_self, past_not_back, past_turn, beside_tight, both}
 use Rattle.record.specs.Sides.{Run, rest_of, Joined, none, apart, joined}
 use Rattle.record.specs.Runs.{Runs, runs_same, facing, current_run, ahead, Before, no_run, first_run_lem, Step}
 use Rattle.record.specs.Decode.{bits_of, turn_of, Sizes, sizes_ahead, joined_size, grow_sizes, beside, met, split, take_out}
@@ -151,8 +151,8 @@ module _ (t : Triple) {v : ℕ} {z y : Runs} {q : Sizes} (k : Sized z q) (step :
       same way = ap (λ (x : ℕ). met (bits_of t way) way x (y.edge way) (y.stack way)) label_back ∙ met_is way (step.joins way)
 
       joint : (turn : Way) → split turn (ahead turn z turn) (ahead turn z (other turn)) ≡ z
-      joint up = runs_same (λ way. elim way [ up ↦ refl | down ↦ refl ]) (λ way. elim way [ up ↦ refl | down ↦ refl ])
-      joint down = runs_same (λ way. elim way [ up ↦ refl | down ↦ refl ]) (λ way. elim way [ up ↦ refl | down ↦ refl ])
+      joint up = runs_same (both _ refl refl) (both _ refl refl)
+      joint down = runs_same (both _ refl refl) (both _ refl refl)
 
 -- back: the runs before have the sizes before, and the step from them leads here
 module _ {bits : Way → Bool} {v : ℕ} {y : Runs} {q : Sizes} (some : 1 ≤ q.current) where
@@ -162,12 +162,12 @@ module _ {bits : Way → Bool} {v : ℕ} {y : Runs} {q : Sizes} (some : 1 ≤ q.
       → Joined (other turn) v (bits (other turn)) back (y.edge (other turn)) (y.stack (other turn))
       → Step turn bits v (split turn onward back) y × Sized (split turn onward back) q
   put_back up m j (run p c s) i = (
-    record { past = past_turn p; free = before_first m; joins = λ way. elim way [ up ↦ j | down ↦ i ] },
-    record { some = some; current = omega (arith, c.reaches); sides = λ way. elim way [ up ↦ from_meets (past_turn p) m | down ↦ s ] },
+    record { past = past_turn p; free = before_first m; joins = both _ j i },
+    record { some = some; current = omega (arith, c.reaches); sides = both _ (from_meets (past_turn p) m) s },
   )
   put_back down m j (run p c s) i = (
-    record { past = past_turn p; free = before_first m; joins = λ way. elim way [ up ↦ i | down ↦ j ] },
-    record { some = some; current = omega (arith, c.reaches); sides = λ way. elim way [ up ↦ s | down ↦ from_meets (past_turn p) m ] },
+    record { past = past_turn p; free = before_first m; joins = both _ i j },
+    record { some = some; current = omega (arith, c.reaches); sides = both _ s (from_meets (past_turn p) m) },
   )
 
 module _ (t : Triple) (y : Runs) (q : Sizes) (some : 1 ≤ q.current) (has : Has (bits_of t (turn_of t)) (q.others (turn_of t))) (k : Sized y (grow_sizes t q)) where

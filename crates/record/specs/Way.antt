@@ -10,6 +10,11 @@ abbrev pub other : Way → Way
 other up = down
 other down = up
 
+-- a fact for both ways, from one for each
+pub both : (P : Way → Type 0) → P up → P down → (way : Way) → P way
+both P u d up = u
+both P u d down = d
+
 abbrev pub Less : Way → ℕ → ℕ → Type 0
 Less up x y = x < y
 Less down x y = y < x

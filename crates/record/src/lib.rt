@@ -1,14 +1,16 @@
 // What every layer shares: labels and positions, and the numbered refusals.
 // The definitions and the theorems of the record stand in specs/.
+#![tactic(auto)]
+
 ghost use Rattle.std.specs.Prelude.{◌≡◌, ◌≤◌};
 ghost use Rattle.record.specs.Refusal.{number_of};
 
 // The place of a room in the order "left of it or above it", from 1.
-#[derive(Drop)]
+#[derive(Clone, Copy)]
 pub struct Label(pub u8);
 
 // The place of a room in the order "left of it or below it", from 1.
-#[derive(Drop)]
+#[derive(Clone, Copy)]
 pub struct Position(pub u8);
 
 impl Label {
@@ -21,7 +23,7 @@ impl Label {
 }
 
 // Why a call is refused: a row of the sheet's table each, in the table's order.
-#[derive(Drop)]
+#[derive(Clone, Copy)]
 pub enum Refusal {
     Count,
     RoomSize,
@@ -96,7 +98,7 @@ impl Refusal {
 }
 
 // What Labels in answers: the record's length, or why not.
-#[derive(Drop)]
+#[derive(Clone, Copy)]
 pub enum LabelsAnswer {
     Wrote(usize),
     Refused(Refusal),

@@ -1,4 +1,6 @@
 // Which relations occur between the rooms of two groups, seen in one walk along the triples of a record's body.
+#![tactic(auto)]
+
 ghost use Rattle.std.specs.Prelude.{suc, ◌≤◌, ◌<◌};
 ghost use Rattle.finite.specs.Decide.{Tells};
 ghost use Rattle.finite.specs.Marks.{Marks};
@@ -17,7 +19,7 @@ pub fn member(group: &[u8; 32], i: usize) -> u8
 }
 
 // Whether some room of the first group is left of some room of the second, and whether one is below one.
-#[derive(Drop)]
+#[derive(Clone, Copy)]
 pub struct Seen {
     pub left: bool,
     pub below: bool,

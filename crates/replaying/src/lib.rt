@@ -1,5 +1,7 @@
 // The replay of a drafting trace: the rooms and runs after each move, or the refusal 21, 28, 1, 29, 12, 13 or 15, in the order of the
 // request. A trace is gone through twice: it is judged whole, and then the states of one that is accepted are written.
+#![tactic(auto)]
+
 ghost use Rattle.std.specs.Prelude.{◌≡◌, ◌≤◌, ◌<◌, length};
 ghost use Rattle.record.specs.TripleNumber.{triple_of};
 ghost use Rattle.traces.specs.Move.{moves_of};
@@ -46,7 +48,7 @@ fn runs(counts: usize) -> usize
 
 // What a move makes of a plan: the counts of runs with a room more; or how many rooms are left, and the counts with them; or why it is
 // refused.
-#[derive(Drop)]
+#[derive(Clone, Copy)]
 enum Turn {
     Added(usize),
     Back(usize, usize),
@@ -133,7 +135,7 @@ fn made(trace: &[u8], at: usize, rooms: usize, counts: usize, kept: &[u16; 256])
 
 // What judging a trace comes to: after so many moves, the rooms and runs; or why a move is refused, its ordinal, and the rooms and runs
 // before it.
-#[derive(Drop)]
+#[derive(Clone, Copy)]
 enum Judged {
     Ended(usize, usize, usize),
     Stopped(Refusal, usize, usize, usize),

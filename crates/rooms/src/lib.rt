@@ -1,5 +1,7 @@
 // Room lists: outline, causes, segments, the two orders, labels, records, and when two lists are equivalent, all of it in specs/; and
 // the sides of the outline.
+#![tactic(auto)]
+
 ghost use Rattle.std.specs.Prelude.{◌≡◌, ◌<◌, min, max, length, get_or};
 ghost use Rattle.finite.specs.Extremes.{least, greatest};
 

@@ -1,4 +1,6 @@
 // Pattern: the first barred pattern of a label list, that there is none, or the refusal with 1, 6 or 7, in this order.
+#![tactic(auto)]
+
 ghost use Rattle.std.specs.Prelude.{◌≡◌, ◌+◌, ◌≤◌, ◌<◌, min, max, length, replicate};
 ghost use Rattle.finite.specs.First.{FirstOrEnd};
 ghost use Rattle.record.specs.Labels.{label_at, EachOnce};
@@ -15,7 +17,7 @@ use record::{Label, Position};
 
 // A position i, and the condition and the positions j, k and l that can complete it to a pattern. They do if k comes before l; else none
 // do.
-#[derive(Drop)]
+#[derive(Clone, Copy)]
 struct Completion {
     i: usize,
     above: bool,

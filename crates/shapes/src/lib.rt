@@ -1,5 +1,7 @@
 // Puts the shapes of a picture, each of which is one form with its numbers: the head with the outline, a room's rectangle and its
 // names, and a segment. A grid step is 40 units, and the margin is 20.
+#![tactic(auto)]
+
 ghost use Rattle.std.specs.Prelude.{◌≡◌, ◌+◌, ◌≤◌, length};
 ghost use Rattle.drawing.specs.Within.{Within};
 ghost use Rattle.contacts.specs.GridLine.{line_between};

@@ -1,8 +1,10 @@
 // The cutting tree of a slicing plan: definitions and theorems stand in specs/.
+#![tactic(auto)]
+
 use record::Refusal;
 
 // By which lines a part of a plan is cut into two parts or more.
-#[derive(Drop)]
+#[derive(Clone, Copy)]
 pub enum Cut {
     // left to right
     Vertical,
@@ -11,7 +13,7 @@ pub enum Cut {
 }
 
 // What the call Tree answers: the tree's length in bytes, or why not.
-#[derive(Drop)]
+#[derive(Clone, Copy)]
 pub enum TreeAnswer {
     Wrote(usize),
     Refused(Refusal),

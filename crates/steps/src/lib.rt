@@ -1,4 +1,6 @@
 // One step of the walk: what a triple says of the new label, the table of the eight steps, and choosing by a bit.
+#![tactic(auto)]
+
 ghost use Rattle.std.specs.Prelude.{◌≡◌, ◌+◌, ◌-◌, ◌*◌, ◌≤◌, ◌<◌};
 ghost use Rattle.record.specs.Walk.{step as tableStep};
 ghost use Rattle.record.specs.TripleNumber.{triple_of};
@@ -14,7 +16,7 @@ pub fn wide(byte: u8) -> usize
 
 // What a triple says of the new label, each 1 or 0: it is joined to a run above it, to a run below it; it lies above the current
 // run, below it.
-#[derive(Drop)]
+#[derive(Clone, Copy)]
 pub struct Turn {
     pub above: usize,
     pub below: usize,
@@ -39,7 +41,7 @@ pub fn turn_of(triple: u8) -> Turn
 
 // Two counts of runs, those below the current run and those above it, with 2 added to each: so a count of one less than none is a
 // number too, and tells that the run which was to be joined is missing.
-#[derive(Drop)]
+#[derive(Clone, Copy)]
 struct Raised(usize, usize);
 
 // The eight steps: each row is the sheet's column "p, q after". Every row is a sum, so that the compiler makes a table of what is
@@ -61,7 +63,7 @@ fn step(triple: u8, below: usize, above: usize) -> Raised
 }
 
 // How many runs lie below the current one and how many above it; or a triple needs a run that is missing.
-#[derive(Drop)]
+#[derive(Clone, Copy)]
 pub enum RunCounts {
     Counted(usize, usize),
     Missing,

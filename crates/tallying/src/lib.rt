@@ -6,6 +6,8 @@
 // needed for a p or q above 8: p runs below took p rises to come about and take p falls to end, and there are 16 of both at most; likewise
 // for q. The places round the figures stay 0, so that a step whose run is missing adds nothing. Where a row ends the next one begins, and
 // where a plane ends the next one does.
+#![tactic(auto)]
+
 ghost use Rattle.std.specs.Prelude.{◌≡◌, suc, ◌+◌, ◌*◌, ◌^◌, ◌≤◌, ◌<◌, min, length};
 ghost use Rattle.finite.specs.Fill.{Filling};
 ghost use Rattle.counting.specs.Ways.{plan_count, plan_total};

@@ -1,4 +1,6 @@
 // Text put byte by byte into a lent store: forms with numbers in them, of which all that the programs print is made.
+#![tactic(auto)]
+
 ghost use Rattle.std.specs.Prelude.{[], ◌∷◌, ◌≡◌, ◌+◌, ◌*◌, ◌≤◌, ◌<◌, length};
 ghost use Rattle.record.specs.Refusal.{number_of};
 ghost use Rattle.digits.specs.Decimal.{newline, decimal, field};

@@ -1,4 +1,6 @@
 // Tidy: a text that lists labels becomes its tidy form, or is refused with 18, 1, 6, 7, 8 or 15, in this order.
+#![tactic(auto)]
+
 ghost use Rattle.std.specs.Prelude.{◌++◌, ◌≡◌, ◌+◌, ◌-◌, ◌≤◌, ◌<◌, ltb, length, drop};
 ghost use Rattle.std.proofs.lemmas.List.Edits.{sets};
 ghost use Rattle.bits.specs.Bit.{bit};

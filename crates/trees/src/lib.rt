@@ -1,4 +1,6 @@
 // The cutting tree of a slicing plan: a record is read, and the tree of its labels is put from the root down. Positions count from 1.
+#![tactic(auto)]
+
 ghost use Rattle.std.specs.Prelude.{suc, ◌+◌, ◌≤◌, ◌<◌, max, min, ◌≡◌, length};
 ghost use Rattle.finite.specs.Decide.{Tells};
 ghost use Rattle.record.specs.Labels.{label_at};
@@ -14,14 +16,14 @@ use record::Refusal;
 use slicing::{Cut, TreeAnswer};
 
 // Where a line parts some rooms: before this position; or there is none.
-#[derive(Drop)]
+#[derive(Clone, Copy)]
 enum Line {
     Before(usize),
     Nowhere,
 }
 
 // Where the trees that were put end, and how many they are. The end is 0 where the rooms have no tree.
-#[derive(Drop)]
+#[derive(Clone, Copy)]
 struct TreesPut {
     end: usize,
     number: usize,

@@ -11,8 +11,7 @@ use lib.Pow.{pow_pos}
 use Rattle.finite.specs.BitTable.{digit, or_digit}
 use Rattle.finite.specs.Decide.{Tells, tells_iff, tells_equal, eq_or_ne}
 use borrow.Author.Rules.{rules}
-use Rattle.marks.proofs.mark.Statement.{statement}
-use Rattle.marks.proofs.mark.Tie as tie
+use Rattle.marks.proofs.mark.Goals as goal
 
 -- an or with a bit changes nothing exactly if the bit is there
 or-tells : (x j : ℕ) → Tells (eqb x (bit_or x (1 * 2 ^ j))) (digit x j ≡ 1)
@@ -30,39 +29,9 @@ or-tells x j =
     added : (d : ℕ) → digit x j ≡ d → bit_or x (1 * 2 ^ j) + d * 2 ^ j ≡ x + 1 * 2 ^ j
     added d is = subst (λ (d : ℕ). bit_or x (1 * 2 ^ j) + d * 2 ^ j ≡ x + 1 * 2 ^ j) is (or_digit x j)
 
-wide-requires : tie.Need-wide-requires
-wide-requires c κs = search rules
-
-element-copy-out-wide : tie.Need-element-copy-out-wide
-element-copy-out-wide c = search rules
-
-wide-requires-2 : tie.Need-wide-requires-2
-wide-requires-2 c κs = search rules
-
-with-bit-requires : tie.Need-with-bit-requires
-with-bit-requires c κs = search rules
-
-cast-seen : tie.Need-overflow-cast-seen
-cast-seen c = search rules
-
-element-write-seen : tie.Need-element-write-seen
-element-write-seen c = search rules
-
-returns : tie.Need-returns
+pub returns : goal.returns
 returns c =
-    let a = c.before.before.before.before.args in
+    let a = c.args in
     let seen : List ℕ = a.seen.now in
-    rw (c.with-bit.ensures.0, c.before.wide2.ensures.0, c.before.before.before.wide.ensures.0)
+    rw (c.with_bit-after.ensures.0, c.wide-before.ensures.0, c.wide-number.ensures.0)
     (or-tells (get_or seen (a.label % 32) 0) (a.label / 32), refl)
-
-pub mark_spec : {M : Type 1} → statement M
-mark_spec =
-    tie.close
-    (tie.spec
-    wide-requires
-    element-copy-out-wide
-    wide-requires-2
-    with-bit-requires
-    cast-seen
-    element-write-seen
-    returns)
