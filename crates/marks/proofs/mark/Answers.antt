@@ -29,9 +29,9 @@ or-tells x j =
     added : (d : ℕ) → digit x j ≡ d → bit_or x (1 * 2 ^ j) + d * 2 ^ j ≡ x + 1 * 2 ^ j
     added d is = subst (λ (d : ℕ). bit_or x (1 * 2 ^ j) + d * 2 ^ j ≡ x + 1 * 2 ^ j) is (or_digit x j)
 
-pub returns : goal.returns
-returns c =
+pub returns-clause-was : goal.returns-clause-was
+returns-clause-was c =
     let a = c.args in
     let seen : List ℕ = a.seen.now in
     rw (c.with_bit-after.ensures.0, c.wide-before.ensures.0, c.wide-number.ensures.0)
-    (or-tells (get_or seen (a.label % 32) 0) (a.label / 32), refl)
+    (or-tells (get_or seen (a.label % 32) 0) (a.label / 32))

@@ -1,0 +1,24 @@
+use mathlib.Core.List.{List}
+use mathlib.Core.Path.{◌≡◌, sym, ap, ◌∙◌}
+use Prim.Native.Nat.{ℕ, ◌+◌, ◌-◌, ◌*◌, ◌≤◌, ◌<◌}
+use native.Mathlib.Omega.{arith}
+use lib.ListN.{length, get_or, length-replicate}
+use Rattle.finite.specs.Decide.{told, told_not}
+use Rattle.record.specs.TripleNumber.{triple_of}
+use Rattle.record.specs.TripleSet.{TripleSet}
+use Rattle.marks.specs.Seen.{mark_of, with_label}
+use Rattle.encoding.proofs.Passed.{Passed, passed_as, passed_first, passed_all}
+use Rattle.encoding.proofs.Turn.{Turn, Taken, turn_of_lem}
+use Rattle.encoding.proofs.encode.Given as goal
+
+abbrev pub invariant-loop-i : goal.invariant-loop-i
+invariant-loop-i l = Passed l.labels (8 * l.m + l.i) l.seen l.below l.above l.runs_below l.runs_above l.last.0 l.«record» × (l.i ≤ 8)
+
+abbrev pub decreases-loop-i : goal.decreases-loop-i
+decreases-loop-i l = 8 - l.i
+
+abbrev pub invariant-loop-m : goal.invariant-loop-m
+invariant-loop-m l = Passed l.labels (8 * l.m) l.seen l.below l.above l.runs_below l.runs_above l.last.0 l.«record»
+
+abbrev pub decreases-loop-m : goal.decreases-loop-m
+decreases-loop-m l = length l.labels - 8 * l.m
