@@ -17,28 +17,25 @@ use Rattle.judging.proofs.eight_steps.Goals.{After-row-tally}
 abbrev triples : After-row-tally → ℕ → Triple
 triples c = triple_in c.args.body.now
 
-short : (c : After-row-tally) → suc ((8 * c.args.m + c.loop-i.i)) ≤ 256
+short : (c : After-row-tally) → suc (8 * c.args.m + c.loop-i.i) ≤ 256
 short c = omega (arith, c.loop-i-test.true, c.requires.0)
 
 -- what the turn adds is the row of its triple
-row_at : (c : After-row-tally) → Row (triples c (suc (suc ((8 * c.args.m + c.loop-i.i))))) c.row-tally.result
+row_at : (c : After-row-tally) → Row (triples c (suc (suc (8 * c.args.m + c.loop-i.i)))) c.row-tally.result
 row_at c =
-    let s = c in
-    let i = c.loop-i.i in
-    let same = c.group_of_word.ensures.0 ∙ c.eight_groups-word.ensures i c.loop-i-test.true in
-    subst (λ (u : Triple). Row u c.row-tally.result) (ap triple_of same ∙ group_triple s.args.body.now ((8 * c.args.m + c.loop-i.i))) c.row-tally.ensures
+    let same = c.group_of_word.ensures.0 ∙ c.eight_groups-word.ensures c.loop-i.i c.loop-i-test.true in
+    subst (λ (u : Triple). Row u c.row-tally.result) (ap triple_of same ∙ group_triple c.args.body.now (8 * c.args.m + c.loop-i.i)) c.row-tally.ensures
 
 pub returns-then-lacks : goal.returns-then-lacks
 returns-then-lacks c =
-    let t = c in
-    let gone = packs_lacks t.loop-i.invariant.0 (short (goal.at.returns-then-lacks c).After-row-tally) t.row-tally.result (row_at (goal.at.returns-then-lacks c).After-row-tally) (told_true (Lacks _) _ c.if-lacks.true c.lacks.ensures) in
-    let rest : suc ((8 * t.args.m + t.loop-i.i)) + (8 - suc t.loop-i.i) ≡ 8 * t.args.m + 8 =
-    omega (arith, t.loop-i-test.true) in
-    subst (λ (k : ℕ). walk (triples (goal.at.returns-then-lacks c).After-row-tally) k ≡ missing) rest (missing_on (triples (goal.at.returns-then-lacks c).After-row-tally) (suc ((8 * t.args.m + t.loop-i.i))) (8 - suc t.loop-i.i) gone)
+    let at = (goal.at.returns-then-lacks c).After-row-tally in
+    let gone = packs_lacks c.loop-i.invariant.0 (short at) c.row-tally.result (row_at at) (told_true (Lacks _) _ c.if-lacks.true c.lacks.ensures) in
+    let rest : suc (8 * c.args.m + c.loop-i.i) + (8 - suc c.loop-i.i) ≡ 8 * c.args.m + 8 = omega (arith, c.loop-i-test.true) in
+    subst (λ (k : ℕ). walk (triples at) k ≡ missing) rest (missing_on (triples at) (suc (8 * c.args.m + c.loop-i.i)) (8 - suc c.loop-i.i) gone)
 
 pub loop-i-preserved : goal.loop-i-preserved
 loop-i-preserved c =
-    let t = c in
-    let next = packs_next t.loop-i.invariant.0 (short (goal.at.loop-i-preserved c).After-row-tally) t.row-tally.result (row_at (goal.at.loop-i-preserved c).After-row-tally) (told_false (Lacks _) _ c.if-lacks.false c.lacks.ensures) in
-    let one : suc ((8 * t.args.m + t.loop-i.i)) ≡ 8 * t.args.m + (t.loop-i.i + 1) = omega arith in
-    (subst (λ (k : ℕ). Packs (triples (goal.at.loop-i-preserved c).After-row-tally) k (t.loop-i.tally + t.row-tally.result)) one next, omega (arith, t.loop-i-test.true))
+    let at = (goal.at.loop-i-preserved c).After-row-tally in
+    let next = packs_next c.loop-i.invariant.0 (short at) c.row-tally.result (row_at at) (told_false (Lacks _) _ c.if-lacks.false c.lacks.ensures) in
+    let one : suc (8 * c.args.m + c.loop-i.i) ≡ 8 * c.args.m + (c.loop-i.i + 1) = omega arith in
+    (subst (λ (k : ℕ). Packs (triples at) k (c.loop-i.tally + c.row-tally.result)) one next, omega (arith, c.loop-i-test.true))
