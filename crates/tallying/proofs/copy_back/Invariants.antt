@@ -1,3 +1,4 @@
+-- `tallying::copy_back` meets its contract: what is copied is not written.
 use Prim.Native.Nat.{◌-◌, ◌≤◌}
 use Rattle.finite.specs.Fill.{Filling}
 use Rattle.tallying.specs.Plane.{copy_of}

@@ -1,3 +1,4 @@
+-- `tallying::sweep_row` meets its contract: each figure from what stood there at the start.
 use Prim.Native.Nat.{◌-◌, ◌≤◌}
 use Rattle.finite.specs.Fill.{Filling}
 use Rattle.tallying.specs.Plane.{cell_of}
