@@ -104,6 +104,8 @@ def main(argv):
     for path in every:
         text = read(path)
         here = dict(table)
+        if path.endswith((".rt", ".edit")):
+            here = {old: new for old, new in here.items() if turns(old)}
         if path.endswith((".antt", ".rt", ".edit")):
             for n in from_libraries(text):
                 here.pop(n, None)

@@ -88,8 +88,8 @@ pub fn encode(labels: &[u8], record: &mut [u8]) -> bool
             }
             let third_bit = one_if(label.0 < last.0);
             let second_bit = marks::mark_of(&seen, at - 1);
-            let first_bit_lem = marks::mark_of(&seen, at + 1);
-            let triple = triple_number(first_bit_lem, second_bit, third_bit);
+            let first_bit = marks::mark_of(&seen, at + 1);
+            let triple = triple_number(first_bit, second_bit, third_bit);
             set_triple(record, m, i, triple);
             if past_runs(label, below[runs_below], above[runs_above]) {
                 return false;
@@ -97,7 +97,7 @@ pub fn encode(labels: &[u8], record: &mut [u8]) -> bool
             below[runs_below + 1] = last;
             above[runs_above + 1] = last;
             runs_below = runs_after(runs_below, 1 - third_bit, second_bit);
-            runs_above = runs_after(runs_above, third_bit, first_bit_lem);
+            runs_above = runs_after(runs_above, third_bit, first_bit);
             last = label;
             i += 1;
         }

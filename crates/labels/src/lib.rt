@@ -81,7 +81,7 @@ pub fn labels_in(labels: &[u8], record: &mut [u8]) -> LabelsAnswer
     if record.len() < size {
         return LabelsAnswer::Refused(Refusal::ShortOutput);
     }
-    bytes::copy(&written[..size], record);
+    record[..size].copy_from_slice(&written[..size]);
     LabelsAnswer::Wrote(size)
 }
 

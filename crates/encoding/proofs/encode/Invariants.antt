@@ -1,14 +1,6 @@
-use mathlib.Core.List.{List}
-use mathlib.Core.Path.{◌≡◌, sym, ap, ◌∙◌}
-use Prim.Native.Nat.{ℕ, ◌+◌, ◌-◌, ◌*◌, ◌≤◌, ◌<◌}
-use native.Mathlib.Omega.{arith}
-use lib.ListN.{length, get_or, length-replicate}
-use Rattle.finite.specs.Decide.{told, told_not}
-use Rattle.record.specs.TripleNumber.{triple_of}
-use Rattle.record.specs.TripleSet.{TripleSet}
-use Rattle.marks.specs.Seen.{mark_of, with_label}
-use Rattle.encoding.proofs.Passed.{Passed, passed_as, passed_first, passed_all}
-use Rattle.encoding.proofs.Turn.{Turn, Taken, turn_of_lem}
+use Prim.Native.Nat.{◌+◌, ◌-◌, ◌*◌, ◌≤◌}
+use lib.ListN.{length}
+use Rattle.encoding.proofs.Passed.{Passed}
 use Rattle.encoding.proofs.encode.Given as goal
 
 abbrev pub invariant-loop-i : goal.invariant-loop-i

@@ -2,7 +2,6 @@
 use Prim.Native.Nat.{◌+◌, ◌*◌}
 use native.Mathlib.Omega.{arith}
 use Rattle.encoding.proofs.Part.{part_set}
-use borrow.Author.Rules.{rules}
 use Rattle.encoding.proofs.set_triple.Goals as goal
 
 pub returns : goal.returns
