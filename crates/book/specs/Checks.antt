@@ -16,6 +16,7 @@ module _ {A : Type 0} (refuse : Refusal → ℕ → A) (good : A) where
   -- the checks give the first bad record
   pub bad_checked : {refusal : Refusal} {at : ℕ} (ordinal : ℕ) (rs : List (List ℕ)) → FirstBad refusal at ordinal rs
       → refuse refusal at ≡ each_checked refuse ordinal rs good
+  bad_checked ordinal [] first = elim first [ ]
   bad_checked ordinal (r ∷ rs) (here cause) =
       refused_checked (λ refusal. refuse refusal ordinal) r (each_checked refuse (suc ordinal) rs good) cause
   bad_checked ordinal (r ∷ rs) (later all bad) =
@@ -52,6 +53,7 @@ module _ {refusal : Refusal} {at : ℕ} where
 
   -- the record with that ordinal is refused
   pub first_bad→refuses : {ordinal : ℕ} {rs : List (List ℕ)} → FirstBad refusal at ordinal rs → Refuses (get_or rs (at - ordinal) []) refusal
+  first_bad→refuses {rs = []} first = elim first [ ]
   first_bad→refuses {rs = (r ∷ rs)} (here cause) =
       let none : 0 ≡ at - at = omega arith in
       subst (λ (k : ℕ). Refuses (get_or (r ∷ rs) k []) refusal) none cause

@@ -15,7 +15,7 @@ use Rattle.book.specs.Totals.{rises_falls_plans, rooms_few, summary_one_more}
 use Rattle.book.specs.NoneAfter.{front_never_11, first_bad_never_11}
 use Rattle.book.specs.ReadingOn.{is_record, is_bad, part_is, record_ends, next_same_record, next_same_rest, reads_on, read_through}
 use Rattle.book.specs.Adding.{good→added, added→good, bad→first, left_lengthened, lengthened_in_order, stays_in_order}
-use Rattle.book.specs.declared.NextAnswer.TheVariants.{Record, BadRecord, Refused}
+use Rattle.book.specs.declared.NextAnswer.TheVariants.{Record, BadRecord}
 use Rattle.book.specs.declared.AddAnswer.{AddAnswer}
 use Rattle.book.specs.declared.AddAnswer.TheVariants as add
 

@@ -1,5 +1,5 @@
 -- A record in a book has no bytes after its body, since the next record begins where its body ends: so 11 is none of its refusals.
-use Rattle.std.specs.Prelude.{List, [], ◌∷◌, ◌≢◌, ℕ, suc, length}
+use Rattle.std.specs.Prelude.{List, [], ◌∷◌, ◌≢◌, ℕ, zero, suc, length}
 use Rattle.std.proofs.Common.{arith, length-take}
 use Rattle.record.specs.Record.{body_length}
 use Rattle.record.specs.Read.{BytesAfter}
@@ -27,5 +27,7 @@ unfolding records_of first_records
 first_bad_never_11 {refusal} {at} bytes first = go (length bytes) bytes first
   where
     go : {ordinal : ℕ} (most : ℕ) (bytes : List ℕ) → FirstBad refusal at ordinal (first_records most bytes) → number_of refusal ≢ 11
+    go zero _ first = elim first [ ]
+    go (suc most) [] first = elim first [ ]
     go (suc most) (b ∷ bs) (here cause) = front_never_11 (b ∷ bs) cause
     go (suc most) (b ∷ bs) (later all rest) = go most (behind (b ∷ bs)) rest

@@ -154,6 +154,7 @@ module _ (labels : List ℕ) where
         there (labels_in.refused (barred p b)) =
             let found = first_pattern (label_at labels) (length labels) b in
             (found.which, found.four, sym (m105_answer labels (first p found.is_first)))
+        there (labels_in.refused (not_permutation cause)) = elim cause [ ]
 
         back : {which : Condition} {q : Four} → PatternSays labels (named which q) → RefusedWith BarredPattern
         back {which} {q} (first p x) = refused_with (barred p (pattern_barred (label_at labels) (length labels) which q x.pattern))
@@ -164,6 +165,7 @@ module _ (labels : List ℕ) where
       where
         never : LabelsSays labels capacity (labelsAnswers.Refused BarredPattern) → PatternSays labels NoPattern → ⊥
         never (labels_in.refused (barred _ b)) (none _ free) = free b
+        never (labels_in.refused (not_permutation cause)) _ = elim cause [ ]
 
         back : Dec (Barred (label_at labels) (length labels)) → ¬ RefusedWith BarredPattern → pattern_answer labels ≡ NoPattern
         back (yes b) not_so = absurd (not_so (refused_with (barred p b)))

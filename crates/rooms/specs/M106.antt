@@ -8,7 +8,7 @@ use Rattle.drawing.specs.declared.Room.{Room}
 use Rattle.drawing.specs.declared.Side as relation
 use Rattle.rooms.specs.Outline.{Covers, room_in}
 use Rattle.rooms.specs.Causes.{AcceptedRooms}
-use Rattle.rooms.specs.Segment.{Stretch, Segment, Side, Holds}
+use Rattle.rooms.specs.Segment.{Stretch, Segment, Holds}
 use Rattle.rooms.specs.Direct.{Stands}
 use Rattle.rooms.specs.LabelList.{label_of, position_of, record_of_rooms}
 use Rattle.rooms.specs.Equivalent.{Pairing, Equivalent}
