@@ -40,6 +40,7 @@ module _ (bytes first second : List ℕ) where
   says : Asked bytes first second → (x : GroupsAnswer) → Says (label_at (labels_of bytes)) first second x → GroupsSays bytes first second x
   says asked (Related side) h = related asked h
   says asked Mixed h = mixed asked h
+  says asked (Refused _) h = elim h [ ]
 
   -- each answer has its cause
   pub demand1_groups_cause : GroupsSays bytes first second (groups_answer bytes first second)

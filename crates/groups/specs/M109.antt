@@ -85,3 +85,4 @@ m109_holds_in_every_room_list rooms accepted first second fits =
     go : (answer : GroupsAnswer) → Says f first second answer → SaysOfRooms rooms first second answer
     go (Related side) h = (iff side).0 h
     go Mixed h = λ side all. h side ((iff side).1 all)
+    go (Refused _) h = elim h [ ]

@@ -73,6 +73,9 @@ module _ (f : ℕ → ℕ) (first second : List ℕ) where
         go (Related one) Mixed h k = absurd (k one h)
         go Mixed (Related other) h k = absurd (h other k)
         go Mixed Mixed h k = refl
+        go (Related one) (Refused _) h k = elim k [ ]
+        go Mixed (Refused _) h k = elim k [ ]
+        go (Refused _) y h k = elim h [ ]
 
 -- ---- the groups exchanged
 pub common_exchanged : (first second : List ℕ) → Common first second → Common second first
@@ -100,3 +103,4 @@ pub says_exchanged : (f : ℕ → ℕ) (first second : List ℕ) → ¬ Common f
 says_exchanged f first second none (Related side) h = stand_exchanged f first second none h
 says_exchanged f first second none Mixed h =
     λ side all. h (converse side) (stand_exchanged f second first (λ c. none (common_exchanged second first c)) all)
+says_exchanged f first second none (Refused _) h = elim h [ ]

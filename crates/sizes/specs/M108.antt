@@ -155,7 +155,7 @@ module _ (bytes : List ℕ) (sizes : EachWay (List ℕ)) where
       told : SlackSays bytes sizes outline (slack.Slack x y) → (NotNegative x × NotNegative y)
           ↔ ((corners : EachWay (List ℕ)) × HonoursAll (labels_of bytes) sizes corners × FitsOutline (length (labels_of bytes)) sizes corners outline)
       told (slack_is all p q) = let (to, from) = m108_slack_iff_fits (labels_of bytes) sizes outline in (
-        λ (a, b). to (λ way. elim way [ across ↦ subst NotNegative p a | upward ↦ subst NotNegative q b ]),
+        λ (a, b). to (λ way. elim way as (λ w. NotNegative (slack_of (labels_of bytes) w (sizes w) (outline w))) [ across ↦ subst NotNegative p a | upward ↦ subst NotNegative q b ]),
         λ fits. (subst NotNegative (sym p) (from fits across), subst NotNegative (sym q) (from fits upward)),
       )
 

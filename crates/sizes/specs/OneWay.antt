@@ -8,7 +8,7 @@ use Rattle.record.specs.Labels.{label_at, EachOnce}
 use Rattle.record.specs.Barred.{Barred}
 use Rattle.record.specs.Triple.{Triple}
 use Rattle.record.specs.Walk.{Counts, missing, counts, step, and_then, walk, Accepted}
-use Rattle.record.specs.Way.{Way, up, down, other}
+use Rattle.record.specs.Way.{Way, up, down, other, both}
 use Rattle.record.specs.Decode.{bits_of, decode}
 use Rattle.record.specs.Positions.{newest_met}
 use Rattle.record.specs.Forward.{triple_bits}
@@ -145,10 +145,7 @@ module _ {t : ℕ → Triple} {n : ℕ} {f : ℕ → ℕ} (w : Walks t n f) (way
       → (at v : ℕ) → at ≡ bit (bits_of new (way_of way)) * height (way_of way) → v ≡ max (x (suc (suc k)) + size (suc (suc k))) (get_or (stack (way_of way)) at 0)
       → OneWay t f way (λ i. x i + size i) (k + 1) (set below (p + 1) line) (set above (q + 1) line) p-next q-next v
   one_way_next p-next q-next ep eq late at v at-is v-is = record {
-    stacked = λ side. elim side [
-      | down ↦ stacked_next (o.stacked down) (room down) o.line_is p-next ep
-      | up ↦ stacked_next (o.stacked up) (room up) o.line_is q-next eq
-    ];
+    stacked = both _ (stacked_next (o.stacked up) (room up) o.line_is q-next eq) (stacked_next (o.stacked down) (room down) o.line_is p-next ep);
     line_is = subst (λ (j : ℕ). LineAt f way end (suc j) v) (sym (add-one k)) next_line;
   }
     where

@@ -5,7 +5,7 @@ use Rattle.std.proofs.Common.{sym, ap, subst, ◌∙◌, arith}
 use Rattle.bits.specs.Bit.{bit}
 use Rattle.record.specs.Triple.{Triple}
 use Rattle.record.specs.Walk.{counts, walk, Accepted}
-use Rattle.record.specs.Way.{up, down}
+use Rattle.record.specs.Way.{up, down, both}
 use Rattle.record.specs.Decode.{bits_of}
 use Rattle.steps.specs.declared.Turn.{Turn}
 use Rattle.steps.specs.Turn.{Says, rises_by, falls_by}
@@ -60,7 +60,7 @@ turned_first t n f size x some e d = record {
   where
     first : (way : Direction) → OneWay t f way (λ i. x way i + size way i) 0 (replicate 256 0) (replicate 256 0) 0 0 (x way 1 + size way 1)
     first way = record {
-      stacked = λ side. elim side [ down ↦ stacked_first t down _ | up ↦ stacked_first t up _ ];
+      stacked = both _ (stacked_first t up _) (stacked_first t down _);
       line_is = line_of_first f way (λ i. x way i + size way i);
     }
 
