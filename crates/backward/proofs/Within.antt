@@ -4,7 +4,7 @@ use mathlib.Core.List.{List, [], ◌∷◌}
 use Prim.Native.Nat.{ℕ, zero, suc, ◌-◌, ◌≤◌}
 use native.Mathlib.Omega.{arith}
 use Rattle.record.specs.Triple.{Triple, triple}
-use Rattle.record.specs.Way.{Way, up, down}
+use Rattle.record.specs.Way.{Way, up, down, both}
 use Rattle.record.specs.Decode.{bits_of}
 use Rattle.record.specs.Positions.{first_of, Entered, pushed, entered_met, others_of, entered_before, entered_but}
 
@@ -40,14 +40,14 @@ unfolding entered_before
 before_within {n} {y = y} (triple first second false) h w =
     let u = triple first second false in
     record {
-      current = λ way. elim way [ up ↦ h | down ↦ first_bounded n (entered_met u y down) (met_within u w down) ];
-      others = λ way. elim way [ up ↦ met_within u w up | down ↦ others_bounded n (entered_met u y down) (met_within u w down) ];
+      current = both _ h (first_bounded n (entered_met u y down) (met_within u w down));
+      others = both _ (met_within u w up) (others_bounded n (entered_met u y down) (met_within u w down));
     }
 before_within {n} {y = y} (triple first second true) h w =
     let u = triple first second true in
     record {
-      current = λ way. elim way [ up ↦ first_bounded n (entered_met u y up) (met_within u w up) | down ↦ h ];
-      others = λ way. elim way [ up ↦ others_bounded n (entered_met u y up) (met_within u w up) | down ↦ met_within u w down ];
+      current = both _ (first_bounded n (entered_met u y up) (met_within u w up)) h;
+      others = both _ (others_bounded n (entered_met u y up) (met_within u w up)) (met_within u w down);
     }
 
 pub entered_small : (t : ℕ → Triple) (n j : ℕ) → EnteredWithin n (entered_but t n j)

@@ -92,6 +92,7 @@ known_adds (t ∷ present) = one_more (adds_of present) t (known_adds present)
     one_more (add u ∷ moves) t k = one_more moves t k
     one_more (Move.take_away ∷ moves) t k = one_more moves t k
     one_more (Move.claim ∷ moves) t k = one_more moves t k
+    one_more (Move.unknown ∷ moves) t k = elim k [ ]
 
 pub moves_of_trace : (bytes : List ℕ) → moves_of (trace_of bytes) ≡ adds_of (triples_of bytes)
 moves_of_trace bytes = moves_of_bytes (adds_of (triples_of bytes)) (known_adds (triples_of bytes))

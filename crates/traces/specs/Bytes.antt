@@ -43,6 +43,7 @@ moves_of_bytes [] k = refl
 moves_of_bytes (add t ∷ moves) k = read_add t (bytes_of moves) ∙ ap (λ (ms : List Move). add t ∷ ms) (moves_of_bytes moves k)
 moves_of_bytes (take_away ∷ moves) k = ap (λ (ms : List Move). take_away ∷ ms) (moves_of_bytes moves k)
 moves_of_bytes (claim ∷ moves) k = ap (λ (ms : List Move). claim ∷ ms) (moves_of_bytes moves k)
+moves_of_bytes (unknown ∷ moves) k = elim k [ ]
 
 -- ---- 28 by the bytes
 -- "an unknown kind, a missing body or a triple above 7"

@@ -11,7 +11,6 @@ loop-sweeps-init c = (first_planes c.args.rises c.args.falls (omega (arith, c.re
 
 pub returns : goal.returns
 returns c =
-    let l = c in
-    let a = l.args in
-    let all : l.loop-sweeps.sweeps ≡ suc a.rises = omega arith in
-    counted a.rises a.falls (subst (λ (k : ℕ). Planes a.rises a.falls k l.loop-sweeps.planes) all l.loop-sweeps.invariant.0)
+    let a = c.args in
+    let all : c.loop-sweeps.sweeps ≡ suc a.rises = omega arith in
+    counted a.rises a.falls (subst (λ (k : ℕ). Planes a.rises a.falls k c.loop-sweeps.planes) all c.loop-sweeps.invariant.0)

@@ -1,0 +1,24 @@
+-- `replaying::back` meets its contract: the only room, a claim that does not hold, one that does, or a room taken away.
+use mathlib.Core.Path.{◌≡◌, refl}
+use native.Mathlib.Omega.{arith}
+use Rattle.replaying.proofs.Turning.{back_only, back_several, back_claim, back_take}
+use Rattle.replaying.proofs.back.Goals as goal
+
+pub returns-then-left-eq0 : goal.returns-then-left-eq0
+returns-then-left-eq0 c = λ present b is k. back_only present b _ k is c.wide.ensures.0 refl c.requires.0 c.if-left-eq0.true
+
+pub returns-then-counts-ne-ONE_RUN : goal.returns-then-counts-ne-ONE_RUN
+returns-then-counts-ne-ONE_RUN c = λ present b is k.
+    back_several present b _ k is c.wide.ensures.0 refl c.told-counts.result c.told-counts.ensures.0
+    c.if-kind-eq3.true c.if-counts-ne-ONE_RUN.true
+
+pub returns-else-counts-ne-ONE_RUN : goal.returns-else-counts-ne-ONE_RUN
+returns-else-counts-ne-ONE_RUN c = λ present b is k.
+    back_claim present b _ k is c.wide.ensures.0 refl c.told-counts.result c.told-counts.ensures.0
+    c.if-kind-eq3.true c.if-counts-ne-ONE_RUN.false
+
+pub returns-else-kind-eq3 : goal.returns-else-kind-eq3
+returns-else-kind-eq3 c = λ present b is k.
+    let two : c.args.kind ≡ 2 = omega (arith, c.requires.0, c.requires.1, c.if-kind-eq3.false) in
+    back_take present b _ k is c.wide.ensures.0 refl c.told-counts.result c.told-counts.ensures.0
+    two c.if-left-eq0.false
