@@ -3,24 +3,13 @@ use lib.Dec.{eqb}
 use Rattle.finite.specs.Decide.{tells_equal, tells_iff}
 use Rattle.sizes.specs.Lists.{some_way}
 use Rattle.packing.proofs.Zero.{least_zero, zero_least}
-use borrow.Author.Rules.{rules}
-use Rattle.packing.proofs.zero_size.Statement.{statement}
-use Rattle.packing.proofs.zero_size.Tie as tie
+use Rattle.packing.proofs.zero_size.Goals as goal
 
-lowest-requires : tie.Need-lowest-requires
-lowest-requires c κs = search rules
-
-lowest-requires-2 : tie.Need-lowest-requires-2
-lowest-requires-2 c κs = search rules
-
-returns : tie.Need-returns
+pub returns : goal.returns
 returns c =
-    let s = c.before.before.before.before in
-    let width = c.before.lowest in
-    let height = c.lowest2 in
+    let s = c in
+    let width = c.lowest-width in
+    let height = c.lowest-height in
     some_way _ (eqb width.result 0) (eqb height.result 0)
     (tells_iff _ _ (eqb width.result 0) (least_zero s.args.widths.now s.requires.0 width.ensures) (zero_least s.args.widths.now width.ensures) (tells_equal width.result 0))
     (tells_iff _ _ (eqb height.result 0) (least_zero s.args.heights.now s.requires.1 height.ensures) (zero_least s.args.heights.now height.ensures) (tells_equal height.result 0))
-
-pub zero-size-spec : {M : Type 1} → statement M
-zero-size-spec = tie.close (tie.spec lowest-requires lowest-requires-2 returns)
