@@ -1,3 +1,4 @@
+-- `list_keys` meets its contract: before each turn the keys before the one at hand are listed.
 use mathlib.Core.Path.{◌≡◌}
 use Prim.Native.Nat.{◌-◌, ◌≤◌}
 use lib.ListN.{length}

@@ -1,3 +1,4 @@
+-- `look_up` meets its contract: the keys listed after the one at hand were passed, and none of them is the one that is looked for.
 use lib.ListN.{length}
 use Rattle.points.specs.Listed.{number_at}
 use Rattle.points.proofs.Listings.{Passed}

@@ -1,0 +1,12 @@
+use mathlib.Core.Path.{◌≡◌, ap, subst}
+use Prim.Native.Nat.{ℕ, ◌≤◌, ◌-◌}
+use native.Mathlib.Omega.{arith}
+use lib.ListN.{get_or}
+use Rattle.finite.specs.Fill.{Filling, filling_none, filling_up, filling_end}
+use Rattle.naming.proofs.by_position.Given as goal
+
+abbrev pub invariant-loop-k : goal.invariant-loop-k
+invariant-loop-k l = (l.k ≤ l.n) × Filling (λ q. get_or l.names (get_or l.by q 0) 0) 0 l.k l.initial.list l.list
+
+abbrev pub decreases-loop-k : goal.decreases-loop-k
+decreases-loop-k l = l.n - l.k

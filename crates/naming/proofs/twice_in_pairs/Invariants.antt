@@ -1,0 +1,14 @@
+use Prim.Native.Nat.{ℕ, ◌≤◌, ◌-◌, zero-le}
+use native.Mathlib.Omega.{arith}
+use lib.ListN.{length, get_or}
+use Rattle.finite.specs.Decide.{told_true, told_false}
+use Rattle.finite.specs.Marks.{none_yet, none_here, none_at_all}
+use Rattle.finite.specs.Search.{Some}
+use Rattle.naming.specs.Twice.{Again, again→twice, twice→again}
+use Rattle.naming.proofs.twice_in_pairs.Given as goal
+
+abbrev pub invariant-loop-j : goal.invariant-loop-j
+invariant-loop-j l = (l.j ≤ length l.names) × (¬ Some (Again (λ k. get_or l.names k 0)) 0 l.j)
+
+abbrev pub decreases-loop-j : goal.decreases-loop-j
+decreases-loop-j l = length l.names - l.j
