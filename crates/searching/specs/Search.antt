@@ -1,5 +1,5 @@
 -- What the functions of the search answer.
-use Rattle.std.specs.Prelude.{◌≡◌, ℕ, ◌≤◌, ◌<◌}
+use Rattle.std.specs.Prelude.{ℕ, ◌≤◌, ◌<◌}
 use Rattle.patterns.specs.Pattern.{Four, FirstPattern}
 use Rattle.patterns.specs.Answer.{named}
 use Rattle.patterns.specs.Sides.{condition_of}
