@@ -72,8 +72,7 @@ fn finish(
     )
 }
 
-// Rooms in, on rooms lent as structs: they are copied, and the rest is done on the copy. What takes a lent slice of structs is proved by
-// hand: so there is one loop here with one call, and one call after it.
+// Rooms in, on rooms lent as structs: they are copied, and the rest is done on the copy.
 pub fn rooms_in(
     rooms: &[Room],
     record: &mut [u8],
