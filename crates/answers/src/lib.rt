@@ -23,8 +23,8 @@ fn corner(byte: u8) -> u16
     byte as u16
 }
 
-// The room with index i, of which the corners stand in arrays by position. It is unnamed. One lifetime does for the four: the walk
-// by hand that calls it lends them at once.
+// The room with index i, of which the corners stand in arrays by position. It is unnamed. One lifetime does for the four, which are
+// lent at once.
 pub fn room_from<'a>(
     left: &'a [u8; 255],
     bottom: &'a [u8; 255],

@@ -1,4 +1,2 @@
--- Laws that the functions' proofs cite.
+-- What the functions write, in words of Record in.
 pub mod Answered
-pub mod Lent
-pub mod Arrays

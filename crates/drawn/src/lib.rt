@@ -18,7 +18,7 @@ fn count(answer: RecordAnswer) -> usize
     }
 }
 
-// ---- rooms lent as structs: what takes such a slice is proved by hand, so there is little in it
+// ---- rooms lent as structs
 
 // Writes the first `n` rooms from the front of a slice, which has the room, and leaves the rest of it. The fields are stored one by one:
 // a room stored whole makes slower code.

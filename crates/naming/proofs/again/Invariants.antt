@@ -1,14 +1,10 @@
 -- `again` meets its contract. The loop keeps that `found` marks whether a room before `i` has the name of room `j`, which is not 0.
 use mathlib.Core.Logic.{◌≢◌}
-use mathlib.Core.Path.{◌≡◌, refl, ◌∙◌}
-use Prim.Native.Nat.{ℕ, ◌≤◌, ◌-◌}
-use native.Mathlib.Omega.{arith}
-use lib.Dec.{eqb}
+use mathlib.Core.Path.{◌≡◌}
+use Prim.Native.Nat.{◌≤◌, ◌-◌}
 use lib.ListN.{get_or}
-use Rattle.finite.specs.Decide.{tells_iff}
-use Rattle.finite.specs.Marks.{Marks, marks_none, marks_more, marks_tell}
+use Rattle.finite.specs.Marks.{Marks}
 use Rattle.finite.specs.Search.{Some}
-use Rattle.naming.specs.Twice.{Again}
 use Rattle.naming.proofs.again.Given as goal
 
 abbrev pub invariant-loop-i : goal.invariant-loop-i

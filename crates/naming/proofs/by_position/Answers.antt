@@ -1,10 +1,9 @@
 -- `by_position` meets its contract: before each turn the names of the rooms at the positions up to k stand in the list.
-use mathlib.Core.Path.{◌≡◌, ap, subst}
-use Prim.Native.Nat.{ℕ, ◌≤◌, ◌-◌}
+use mathlib.Core.Path.{◌≡◌, subst}
+use Prim.Native.Nat.{ℕ}
 use native.Mathlib.Omega.{arith}
 use lib.ListN.{get_or}
-use Rattle.finite.specs.Fill.{Filling, filling_none, filling_up, filling_end}
-use borrow.Author.Rules.{rules}
+use Rattle.finite.specs.Fill.{Filling, filling_end}
 use Rattle.naming.proofs.by_position.Goals as goal
 
 pub returns : goal.returns

@@ -1,8 +1,6 @@
-use mathlib.Core.Path.{◌≡◌, ap, subst}
-use Prim.Native.Nat.{ℕ, ◌≤◌, ◌-◌}
-use native.Mathlib.Omega.{arith}
+use Prim.Native.Nat.{◌≤◌, ◌-◌}
 use lib.ListN.{get_or}
-use Rattle.finite.specs.Fill.{Filling, filling_none, filling_up, filling_end}
+use Rattle.finite.specs.Fill.{Filling}
 use Rattle.naming.proofs.by_position.Given as goal
 
 abbrev pub invariant-loop-k : goal.invariant-loop-k

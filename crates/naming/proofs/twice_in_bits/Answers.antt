@@ -1,16 +1,15 @@
 -- `twice_in_bits` meets its contract. The loop keeps that the table tells the names seen so far, and `found` whether one was seen again.
-use mathlib.Core.Path.{◌≡◌, refl, sym, ap, subst, ◌∙◌}
-use Prim.Native.Nat.{ℕ, ◌+◌, ◌≤◌, ◌-◌}
+use mathlib.Core.Path.{sym, ap, subst, ◌∙◌}
+use Prim.Native.Nat.{ℕ, ◌+◌}
 use native.Mathlib.Omega.{arith}
 use lib.Dec.{eqb}
 use lib.ListN.{length, get_or}
 use Rattle.finite.specs.Decide.{tells_iff}
-use Rattle.finite.specs.Marks.{Marks, marks_none, marks_more, marks_tell}
+use Rattle.finite.specs.Marks.{Marks, marks_more, marks_tell}
 use Rattle.finite.specs.Search.{Some}
 use Rattle.naming.specs.Twice.{Twice, Again, again→twice, twice→again}
 use Rattle.finite.specs.BitTable.{length_with_bit}
-use Rattle.naming.specs.Seen.{SeenIn, bit_for, seen_none, seen_more}
-use borrow.Author.Rules.{rules}
+use Rattle.naming.specs.Seen.{SeenIn, bit_for, seen_more}
 use Rattle.naming.proofs.twice_in_bits.Goals as goal
 
 pub loop-i-preserved : goal.loop-i-preserved

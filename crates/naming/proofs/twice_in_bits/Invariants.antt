@@ -1,14 +1,10 @@
-use mathlib.Core.Path.{◌≡◌, refl, sym, ap, subst, ◌∙◌}
-use Prim.Native.Nat.{ℕ, ◌+◌, ◌≤◌, ◌-◌}
-use native.Mathlib.Omega.{arith}
-use lib.Dec.{eqb}
+use mathlib.Core.Path.{◌≡◌}
+use Prim.Native.Nat.{◌≤◌, ◌-◌}
 use lib.ListN.{length, get_or}
-use Rattle.finite.specs.Decide.{tells_iff}
-use Rattle.finite.specs.Marks.{Marks, marks_none, marks_more, marks_tell}
+use Rattle.finite.specs.Marks.{Marks}
 use Rattle.finite.specs.Search.{Some}
-use Rattle.naming.specs.Twice.{Twice, Again, again→twice, twice→again}
-use Rattle.finite.specs.BitTable.{length_with_bit}
-use Rattle.naming.specs.Seen.{SeenIn, bit_for, seen_none, seen_more}
+use Rattle.naming.specs.Twice.{Again}
+use Rattle.naming.specs.Seen.{SeenIn}
 use Rattle.naming.proofs.twice_in_bits.Given as goal
 
 abbrev pub invariant-loop-i : goal.invariant-loop-i

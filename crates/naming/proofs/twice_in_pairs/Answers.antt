@@ -1,12 +1,9 @@
 -- `twice_in_pairs` meets its contract. The loop keeps that no room before `j` is named as an earlier one is.
-use Prim.Native.Nat.{ℕ, ◌≤◌, ◌-◌, zero-le}
+use Prim.Native.Nat.{ℕ}
 use native.Mathlib.Omega.{arith}
 use lib.ListN.{length, get_or}
-use Rattle.finite.specs.Decide.{told_true, told_false}
-use Rattle.finite.specs.Marks.{none_yet, none_here, none_at_all}
-use Rattle.finite.specs.Search.{Some}
-use Rattle.naming.specs.Twice.{Again, again→twice, twice→again}
-use borrow.Author.Rules.{rules}
+use Rattle.finite.specs.Marks.{none_at_all}
+use Rattle.naming.specs.Twice.{Again, twice→again}
 use Rattle.naming.proofs.twice_in_pairs.Goals as goal
 
 pub returns : goal.returns

@@ -1,10 +1,7 @@
-use Prim.Native.Nat.{ℕ, ◌≤◌, ◌-◌, zero-le}
-use native.Mathlib.Omega.{arith}
+use Prim.Native.Nat.{◌≤◌, ◌-◌}
 use lib.ListN.{length, get_or}
-use Rattle.finite.specs.Decide.{told_true, told_false}
-use Rattle.finite.specs.Marks.{none_yet, none_here, none_at_all}
 use Rattle.finite.specs.Search.{Some}
-use Rattle.naming.specs.Twice.{Again, again→twice, twice→again}
+use Rattle.naming.specs.Twice.{Again}
 use Rattle.naming.proofs.twice_in_pairs.Given as goal
 
 abbrev pub invariant-loop-j : goal.invariant-loop-j
