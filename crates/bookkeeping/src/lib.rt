@@ -187,7 +187,7 @@ fn append(book: &mut [u8], used: usize, record: &[u8])
     requires { used + length «record».now ≤ length book.old }
     ensures { book.new ≡ appended book.old used «record».now }
 {
-    bytes::copy(record, &mut book[used..]);
+    book[used..used + record.len()].copy_from_slice(record);
 }
 
 // Adds a record behind the used part, and its totals to the summary; or says why not, and changes nothing.

@@ -9,7 +9,7 @@ ghost use Rattle.counting.specs.Ways.{plan_count};
 ghost use Rattle.plancount.specs.Text.{line_of, lines_of, Printed};
 
 use counting::CountAnswer;
-use libc::STDOUT_FILENO;
+use std::io::{self, Write};
 
 // Places for 17 times 17 lines, each of two numbers of at most five digits and one of at most twenty, and a byte after each.
 const TEXT: usize = 9537;
@@ -62,8 +62,8 @@ fn put_text(text: &mut [u8]) -> usize
     at
 }
 
-fn main() {
+fn main(rt: HostRuntime) -> io::Result<()> {
     let mut text = [0u8; TEXT];
     let end = put_text(&mut text);
-    io::write_all(STDOUT_FILENO, &text[..end]);
+    rt.stdout().write_all(&text[..end])
 }

@@ -7,7 +7,7 @@ ghost use Rattle.io.specs.Counts.{IsPrefixLen};
 ghost use Rattle.shapes.specs.Picture.{picture_of};
 
 use answers::RecordAnswer;
-use libc::{STDIN_FILENO, STDOUT_FILENO};
+use std::io::{self, Write};
 
 // As many bytes as planlist reads.
 const INPUT: usize = 98;
@@ -39,10 +39,10 @@ fn put_picture(record: &[u8], text: &mut [u8]) -> usize
     }
 }
 
-fn main() {
-    let mut input = [0u8; INPUT];
-    let size = io::read_full(STDIN_FILENO, &mut input);
+fn main(rt: HostRuntime) -> io::Result<()> {
+    let mut bytes = [0u8; INPUT];
+    let size = input::read_front(&mut rt.stdin(), &mut bytes)?;
     let mut text = [0u8; TEXT];
-    let end = put_picture(&input[..size], &mut text);
-    io::write_all(STDOUT_FILENO, &text[..end]);
+    let end = put_picture(&bytes[..size], &mut text);
+    rt.stdout().write_all(&text[..end])
 }

@@ -7,7 +7,7 @@ ghost use Rattle.io.specs.Counts.{IsPrefixLen};
 ghost use Rattle.listing.specs.Text.{text_of};
 
 use answers::RecordAnswer;
-use libc::{STDIN_FILENO, STDOUT_FILENO};
+use std::io::{self, Write};
 
 // "at most 98 bytes": one more than the longest record has, so that a longer input is refused for its first 98 bytes already.
 const INPUT: usize = 98;
@@ -41,10 +41,10 @@ fn put_text(record: &[u8], text: &mut [u8]) -> usize
     }
 }
 
-fn main() {
-    let mut input = [0u8; INPUT];
-    let size = io::read_full(STDIN_FILENO, &mut input);
+fn main(rt: HostRuntime) -> io::Result<()> {
+    let mut bytes = [0u8; INPUT];
+    let size = input::read_front(&mut rt.stdin(), &mut bytes)?;
     let mut text = [0u8; TEXT];
-    let end = put_text(&input[..size], &mut text);
-    io::write_all(STDOUT_FILENO, &text[..end]);
+    let end = put_text(&bytes[..size], &mut text);
+    rt.stdout().write_all(&text[..end])
 }
