@@ -277,7 +277,7 @@ pub fn tree(record: &[u8], tree: &mut [u8]) -> TreeAnswer
             if tree.len() < size {
                 return TreeAnswer::Refused(Refusal::ShortOutput);
             }
-            bytes::copy(&put[..size], tree);
+            tree[..size].copy_from_slice(&put[..size]);
             TreeAnswer::Wrote(size)
         }
     }
