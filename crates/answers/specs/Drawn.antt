@@ -13,10 +13,10 @@ use Rattle.record.specs.Walk.{Accepted}
 use Rattle.record.specs.Way.{up, down}
 use Rattle.record.specs.Decode.{label_of, decode}
 use Rattle.record.specs.Positions.{newest_met}
-use Rattle.record.specs.Backward.{length_decode, decode_at}
+use Rattle.record.proofs.Backward.{length_decode, decode_at}
 use Rattle.record.specs.Read.{kind_of, labels_of}
 use Rattle.record.specs.Checked.{Readable}
-use Rattle.record.specs.Demand2Read.{readable_accepted}
+use Rattle.record.proofs.Demand2Read.{readable_accepted}
 use Rattle.steps.specs.Passes.{Starts}
 use Rattle.backward.specs.Written.{end_at, Written}
 use Rattle.reading.specs.Answer.{triples_of}

@@ -13,7 +13,7 @@ use Rattle.record.specs.Way.{Way, up, down, other}
 use Rattle.record.specs.Sides.{Run}
 use Rattle.record.specs.Runs.{Runs}
 use Rattle.record.specs.Decode.{bits_of, turn_of, lower_size, beside, met, first_run, other_runs, take_out, runs_but, label_of}
-use Rattle.record.specs.Backward.{decode_at, decoded_each, back_run}
+use Rattle.record.proofs.Backward.{decode_at, decoded_each, back_run}
 use Rattle.steps.specs.declared.Turn.{Turn}
 use Rattle.steps.specs.Turn.{Says, rises_by, falls_by}
 use Rattle.steps.specs.Passes.{Lowers}

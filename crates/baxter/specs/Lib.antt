@@ -3,6 +3,4 @@ pub mod Formula
 pub mod Lists
 -- Theorems, and what they rest on
 pub mod Rows
-pub mod Computed
 pub mod Paired
-pub mod M112

@@ -16,15 +16,15 @@ use Rattle.record.specs.Triple.{triple_at}
 use Rattle.record.specs.Record.{triple_in, record_of}
 use Rattle.record.specs.Read.{kind_of, body_of, labels_of}
 use Rattle.record.specs.Rises.{rises, third_of, rises_of}
-use Rattle.record.specs.Demand2.{record_triple}
-use Rattle.record.specs.Demand2Read.{Reads, record_of→labels_of, demand2_read_only_list}
+use Rattle.record.proofs.Demand2.{record_triple}
+use Rattle.record.proofs.Demand2Read.{Reads, record_of→labels_of, demand2_read_only_list}
 use Rattle.drawing.specs.declared.Room.{Room}
 use Rattle.drawing.specs.Drawing.{drawing_of}
 use Rattle.rooms.specs.Outline.{SixteenBits}
 use Rattle.rooms.specs.Causes.{AcceptedRooms}
 use Rattle.rooms.specs.LabelList.{label_list, record_of_rooms}
 use Rattle.rooms.specs.Equivalent.{Equivalent}
-use Rattle.rooms.specs.Demand3.{rooms_give_baxter, demand3_same_record_iff_equivalent, kind_of_rooms, drawing_of_record}
+use Rattle.rooms.proofs.Demand3.{rooms_give_baxter, demand3_same_record_iff_equivalent, kind_of_rooms, drawing_of_record}
 use Rattle.counting.specs.Counted.{AcceptedRecord}
 use Rattle.counting.specs.Accepted.{record_accepted}
 use Rattle.baxter.specs.Lists.{BaxterList, rises_of_labels, PlanOfRooms}

@@ -7,7 +7,7 @@ use native.Mathlib.Omega.{arith}
 use lib.ListN.{length, get_or, get_or-eq_default}
 use Rattle.finite.specs.Decide.{le_or_lt}
 use Rattle.bits.specs.Bit.{bit, bit_in, bit_at, group_at}
-use Rattle.bits.specs.Pack.{bit_at_byte}
+use Rattle.bits.proofs.Pack.{bit_at_byte}
 use Rattle.bits.specs.Eight.{EightGroups}
 use Rattle.bits.proofs.Digit.{digit, digit_of_quotient, digit_of_remainder, three_digits}
 use Rattle.bits.proofs.WordGroup.{bit_of_digit}

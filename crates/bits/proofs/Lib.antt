@@ -4,3 +4,4 @@ pub mod Put
 pub mod Word
 pub mod WordGroup
 pub mod Eight
+pub mod Pack

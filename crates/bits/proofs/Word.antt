@@ -12,7 +12,7 @@ use lib.ListN.{length, get_or, set, length-set}
 use lib.Seq.{get_or-set_same, get_or-set_other}
 use Rattle.finite.specs.Decide.{le_or_lt, eq_or_ne}
 use Rattle.bits.specs.Bit.{bit_in, bit_at, Bytes}
-use Rattle.bits.specs.Pack.{bit_at_byte}
+use Rattle.bits.proofs.Pack.{bit_at_byte}
 use Rattle.bits.specs.Word.{bit_of_word, reach, Shows, Stored}
 use Rattle.bits.proofs.Digit.{digit_of_quotient, digit_of_remainder}
 

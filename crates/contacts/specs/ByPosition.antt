@@ -6,11 +6,11 @@ use Rattle.drawing.specs.Drawing.{drawing_of}
 use Rattle.rooms.specs.Causes.{AcceptedRooms}
 use Rattle.rooms.specs.LabelList.{position_of, label_list}
 use Rattle.rooms.specs.Equivalent.{Equivalent}
-use Rattle.rooms.specs.Demand3.{BaxterOf, rooms_give_baxter}
+use Rattle.rooms.proofs.Demand3.{BaxterOf, rooms_give_baxter}
 use Rattle.rooms.specs.PlanOf.{accepted→floorplan}
-use Rattle.rooms.specs.PartnerSegments.{same_labels→equivalent}
-use Rattle.rooms.specs.SameLabels.{equivalent→same_position}
-use Rattle.rooms.specs.GridLabels.{DrawnAs, baxter_gives_drawing, drawing_position}
+use Rattle.rooms.proofs.PartnerSegments.{same_labels→equivalent}
+use Rattle.rooms.proofs.SameLabels.{equivalent→same_position}
+use Rattle.rooms.proofs.GridLabels.{DrawnAs, baxter_gives_drawing, drawing_position}
 
 pub record ByPosition (rooms : List Room) : Type 0 where
   pub accepted : AcceptedRooms (drawing_of (label_list rooms))

@@ -2,12 +2,12 @@
 use Rattle.std.specs.Prelude.{List, ◌≡◌, ℕ, zero, suc, ◌≤◌, ◌<◌, length}
 use Rattle.std.proofs.Common.{arith}
 use Rattle.bits.specs.Bit.{Bytes}
-use Rattle.bits.specs.Pack.{bytes_pack}
+use Rattle.bits.proofs.Pack.{bytes_pack}
 use Rattle.record.specs.Labels.{label_at}
 use Rattle.record.specs.Barred.{Baxter}
 use Rattle.record.specs.Triple.{triple_at}
 use Rattle.record.specs.Record.{body_length, body_bit, record_of}
-use Rattle.record.specs.Demand2Read.{demand2_written_read}
+use Rattle.record.proofs.Demand2Read.{demand2_written_read}
 use Rattle.counting.specs.Counted.{AcceptedRecord}
 
 record_bytes : (labels : List ℕ) → length labels < 256 → Bytes (record_of labels)

@@ -2,3 +2,4 @@
 pub mod Cases
 pub mod Lines
 pub mod Beside
+pub mod SideFacts

@@ -9,8 +9,8 @@ use Rattle.record.specs.Walk.{Accepted}
 use Rattle.record.specs.Way.{Way, up, down, Less}
 use Rattle.record.specs.Decode.{decode}
 use Rattle.record.specs.Positions.{newest_met, entered_but}
-use Rattle.record.specs.Newest.{met_newest}
-use Rattle.record.specs.Entered.{label_entered}
+use Rattle.record.proofs.Newest.{met_newest}
+use Rattle.record.proofs.Entered.{label_entered}
 use Rattle.drawing.specs.Drawing.{left_at, bottom_at, right_at, top_at}
 use Rattle.drawing.specs.Nearest.{Nearest, nearest→last, nearest→first}
 

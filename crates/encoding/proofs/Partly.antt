@@ -10,7 +10,7 @@ use lib.ListN.{length, take, replicate, length-replicate}
 use Rattle.finite.specs.BitTable.{zeros_at}
 use Rattle.finite.specs.Decide.{eq_or_ne}
 use Rattle.bits.specs.Bit.{bit_at, Bytes, pack}
-use Rattle.bits.specs.Pack.{take_pack, bit_at_zeros}
+use Rattle.bits.proofs.Pack.{take_pack, bit_at_zeros}
 use Rattle.record.specs.Labels.{label_at}
 use Rattle.record.specs.Triple.{Triple, triple_at}
 use Rattle.record.specs.Record.{body_length, body_bit, triple_in, record_of}
@@ -18,7 +18,7 @@ use Rattle.record.specs.Read.{kind_of, body_of}
 use Rattle.record.specs.Body.{body_of_triples}
 use Rattle.record.specs.TripleSet.{TripleSet}
 use Rattle.record.specs.M104.{m104_kind_stays, m104_body_bit_stays, m104_other_triples_stay}
-use Rattle.record.specs.Demand2.{record_length}
+use Rattle.record.proofs.Demand2.{record_length}
 
 -- the kind byte and the triples of the first k positions from 2 on are in the record, and the rest is zero
 pub record Partly (triples : ℕ → Triple) (n k : ℕ) (written : List ℕ) : Type 0 where

@@ -23,9 +23,9 @@ use Rattle.record.specs.Record.{record_of}
 use Rattle.record.specs.Way.{Way, up, down, Past}
 use Rattle.record.specs.Runs.{Runs, Inside, ahead, Before, Step, reach_chained, one_way, fresh_past, chained_free}
 use Rattle.record.specs.Decode.{bits_of, turn_of}
-use Rattle.record.specs.NextTo.{Seen, NextTo, not_barred_next, next_not_barred}
-use Rattle.record.specs.Forward.{Takes, leave, take, joined_takes, triple_turn, runs_of, Stage, stage_first, step_stage, free_step}
-use Rattle.record.specs.Demand2.{each_once}
+use Rattle.record.proofs.NextTo.{Seen, NextTo, not_barred_next, next_not_barred}
+use Rattle.record.proofs.Forward.{Takes, leave, take, joined_takes, triple_turn, runs_of, Stage, stage_first, step_stage, free_step}
+use Rattle.record.proofs.Demand2.{each_once}
 use Rattle.encoding.specs.Encoded.{Encoded, PastRuns}
 use Rattle.encoding.specs.Picks.{Picks, none, Nearest, inside_within, not_past_current_before, not_past_before, past_not_before}
 use Rattle.encoding.specs.Marked.{seen_of, marked_earlier, mark_bit}

@@ -10,7 +10,7 @@ use Rattle.record.specs.declared.Label.{Label}
 use Rattle.record.specs.Way.{Way, up, down, Past}
 use Rattle.record.specs.Sides.{Run}
 use Rattle.record.specs.Runs.{Runs, current_run, ahead}
-use Rattle.record.specs.Forward.{Takes, leave, take}
+use Rattle.record.proofs.Forward.{Takes, leave, take}
 use Rattle.encoding.specs.Picks.{Within, Picks, none, one, Nearest, beyond, picked}
 
 abbrev pub label_in : List Label → ℕ → ℕ

@@ -10,11 +10,11 @@ use Rattle.drawing.specs.declared.Room.{Room}
 use Rattle.rooms.specs.Outline.{room_in}
 use Rattle.rooms.specs.Causes.{AcceptedRooms}
 use Rattle.rooms.specs.LabelList.{label_of, position_of, room_at_position, record_of_rooms}
-use Rattle.rooms.specs.LabelFacts.{positions_are_1_to_n}
+use Rattle.rooms.proofs.LabelFacts.{positions_are_1_to_n}
 use Rattle.rooms.specs.PlanOf.{accepted→floorplan}
-use Rattle.rooms.specs.Ranks.{room_of_its_position}
+use Rattle.rooms.proofs.Ranks.{room_of_its_position}
 use Rattle.rooms.specs.SameButNames.{SameButNames, same_but_names_sym, same_room_size, same_overlap, same_uncovered, same_four_meet, same_accepted}
-use Rattle.rooms.specs.M106.{m106_same_label, m106_same_position, m106_same_record}
+use Rattle.rooms.proofs.M106.{m106_same_label, m106_same_position, m106_same_record}
 use Rattle.entering.specs.Answer.{Short, rooms_answer, labels_of_rooms, positions_of_rooms, names_of_rooms, written, Slices, RoomsIn}
 use Rattle.entering.specs.Demand1.{RoomsSays, count, size, overlap, uncovered, four_meet, name_twice, short, wrote, demand1_rooms_cause, demand1_rooms_answer}
 use Rattle.entering.specs.declared.RoomsAnswer.{RoomsAnswer}

@@ -11,7 +11,7 @@ use Rattle.rooms.specs.Causes.{NameTwice, AcceptedRooms}
 use Rattle.rooms.specs.Corners.{length_rooms, room_of_lem}
 use Rattle.rooms.specs.LabelList.{label_of, position_of}
 use Rattle.rooms.specs.SameButNames.{SameCorners, SameButNames, same_accepted}
-use Rattle.rooms.specs.M106.{m106_same_label, m106_same_position}
+use Rattle.rooms.proofs.M106.{m106_same_label, m106_same_position}
 use Rattle.corners.specs.ListPlan.{rooms_from}
 use Rattle.naming.specs.Twice.{Twice}
 use Rattle.orders.specs.InOrder.{Numbered}

@@ -8,7 +8,7 @@ use Rattle.finite.specs.Table.{table, table_same, length_table, get_d_table}
 use Rattle.finite.specs.Fill.{filled}
 use Rattle.record.specs.Record.{record_of}
 use Rattle.record.specs.Answer.{labels_answer, record_after}
-use Rattle.record.specs.Demand2.{record_length, demand2_accepts_baxter}
+use Rattle.record.proofs.Demand2.{record_length, demand2_accepts_baxter}
 use Rattle.record.specs.declared.Refusal.{Refusal}
 use Rattle.record.specs.declared.LabelsAnswer.{LabelsAnswer}
 use Rattle.record.specs.declared.LabelsAnswer.TheVariants as labels_in
@@ -17,8 +17,8 @@ use Rattle.rooms.specs.Causes.{AcceptedRooms}
 use Rattle.rooms.specs.Outline.{room_in}
 use Rattle.rooms.specs.LabelList.{label_of, position_of, room_at_position, label_list, record_of_rooms}
 use Rattle.rooms.specs.PlanOf.{accepted→floorplan}
-use Rattle.rooms.specs.Ranks.{room_of_its_position}
-use Rattle.rooms.specs.Demand3.{BaxterOf, rooms_give_baxter}
+use Rattle.rooms.proofs.Ranks.{room_of_its_position}
+use Rattle.rooms.proofs.Demand3.{BaxterOf, rooms_give_baxter}
 use Rattle.orders.specs.InOrder.{ByPosition, Numbered, LabelsInOrder}
 use Rattle.entering.specs.Answer.{names_of_rooms, Short, Slices, slices, RoomsIn}
 use Rattle.entering.specs.Demand1.{RoomsSays, wrote, demand1_rooms_answer}

@@ -15,7 +15,7 @@ use Rattle.record.specs.Walk.{Counts, counts, step, and_then, walk}
 use Rattle.record.specs.Way.{up, down}
 use Rattle.record.specs.Sides.{rest_of}
 use Rattle.record.specs.Decode.{bits_of, Sizes, sizes_ahead, joined_size, grow_sizes, sizes_after, lower_size}
-use Rattle.record.specs.Backward.{size_small}
+use Rattle.record.proofs.Backward.{size_small}
 use Rattle.steps.specs.declared.Turn.{Turn}
 use Rattle.steps.specs.Turn.{Says, rises_by, falls_by}
 use Rattle.steps.specs.Stack.{stack_of, stack_pushed, either, either_top, joined_top, rest_stack}

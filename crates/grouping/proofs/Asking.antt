@@ -13,8 +13,8 @@ use Rattle.judging.specs.Passed.{tail}
 use Rattle.judging.specs.Walkable.{labels_in, labels_in_body}
 use Rattle.groups.specs.Group.{Outside, Empty, SomeEmpty, Common, Fits}
 use Rattle.groups.specs.Answer.{standing, groups_answer}
-use Rattle.groups.specs.StandingFacts.{standing_says}
-use Rattle.groups.specs.Demand1.{Asked, outside, empty, common, asked_answer, demand1_groups_answer}
+use Rattle.groups.proofs.StandingFacts.{standing_says}
+use Rattle.groups.proofs.Demand1.{Asked, outside, empty, common, asked_answer, demand1_groups_answer}
 use Rattle.groups.specs.declared.GroupsAnswer.TheVariants.{Refused}
 use Rattle.grouping.specs.Ends.{LastIn}
 

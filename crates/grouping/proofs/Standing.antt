@@ -13,8 +13,9 @@ use Rattle.drawing.specs.declared.Side.TheVariants.{Left, Right, Above, Below}
 use Rattle.sizes.specs.Direction.{across, upward}
 use Rattle.groups.specs.Group.{Member, EachIn, SomeIn, Empty, Fits}
 use Rattle.groups.specs.Answer.{standing}
-use Rattle.groups.specs.StandingFacts.{some_member, member_inside, apart, Says, says→standing, fits_exchanged, exchanged, says_exchanged}
-use Rattle.groups.specs.Pairs.{Ahead, SomePair, SomeBefore, interleaved_mixed, all_one_way, both_mixed}
+use Rattle.groups.proofs.StandingFacts.{some_member, member_inside, apart, Says, says→standing, fits_exchanged, exchanged, says_exchanged}
+use Rattle.groups.specs.Pairs.{Ahead, SomePair, SomeBefore}
+use Rattle.groups.proofs.Pairs.{interleaved_mixed, all_one_way, both_mixed}
 use Rattle.groups.specs.declared.GroupsAnswer.TheVariants.{Related, Mixed}
 use Rattle.grouping.specs.Ends.{LastIn, FirstIn, verdict_of}
 

@@ -6,7 +6,7 @@ use Rattle.record.specs.Read.{kind_of, labels_of}
 use Rattle.drawing.specs.Side.{side_of}
 use Rattle.groups.specs.Group.{Member, EachIn, Outside, SomeEmpty, Common}
 use Rattle.groups.specs.Answer.{groups_answer}
-use Rattle.groups.specs.Demand1.{GroupsSays, refused_record, outside, common, related, demand1_groups_answer}
+use Rattle.groups.proofs.Demand1.{GroupsSays, refused_record, outside, common, related, demand1_groups_answer}
 use Rattle.groups.specs.declared.GroupsAnswer.{GroupsAnswer}
 use Rattle.groups.specs.declared.GroupsAnswer.TheVariants.{Related, Refused}
 use Rattle.questions.specs.Answer as question

@@ -8,18 +8,18 @@ use native.Mathlib.Numerals.{add-one}
 use lib.ListN.{length, get_or, set, replicate}
 use Rattle.finite.specs.Decide.{eq_or_ne}
 use Rattle.record.specs.Record.{triple_in}
-use Rattle.record.specs.Backward.{length_decode}
+use Rattle.record.proofs.Backward.{length_decode}
 use Rattle.steps.specs.declared.Turn.{Turn}
 use Rattle.steps.specs.Turn.{Says}
 use Rattle.steps.specs.Stack.{either}
 use Rattle.sizes.specs.Direction.{Direction, across, upward}
 use Rattle.sizes.specs.Lowest.{furthest_before}
-use Rattle.sizes.specs.LowestLaws.{before→earlier, honours→furthest, furthest→honours, furthest_smallest}
+use Rattle.sizes.proofs.LowestLaws.{before→earlier, honours→furthest, furthest→honours, furthest_smallest}
 use Rattle.sizes.specs.Placing.{Honours}
 use Rattle.sizes.specs.Lists.{each_way, number_at, HonoursAll}
 use Rattle.judging.specs.Walkable.{labels_in, Walkable}
-use Rattle.sizes.specs.OneWay.{Walks, accepted_walks}
-use Rattle.sizes.specs.Turned.{TurnFits, Turned, turned_first, turn_fits, turned_next, left_is, bottom_is}
+use Rattle.sizes.proofs.OneWay.{Walks, accepted_walks}
+use Rattle.sizes.proofs.Turned.{TurnFits, Turned, turned_first, turn_fits, turned_next, left_is, bottom_is}
 use Rattle.placing.specs.Along.{label, size_of}
 
 module _ (body widths heights xs ys : List ℕ) where

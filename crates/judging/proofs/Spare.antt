@@ -11,7 +11,7 @@ use Rattle.finite.specs.Decide.{eq_or_ne}
 use Rattle.finite.specs.Every.{every, every_at}
 use Rattle.finite.specs.Search.{Some}
 use Rattle.bits.specs.Bit.{bit, bit_in, bit_at}
-use Rattle.bits.specs.Pack.{bit_at_byte}
+use Rattle.bits.proofs.Pack.{bit_at_byte}
 
 -- how many of the low s bits of a byte are set
 low_set : ℕ → ℕ → ℕ

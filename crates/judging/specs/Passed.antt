@@ -5,7 +5,7 @@ use Rattle.std.proofs.Common.{inl, inr, sym, ap, subst, ◌∙◌, arith, length
 use Rattle.finite.specs.Decide.{le_or_lt}
 use Rattle.finite.specs.Search.{Some}
 use Rattle.bits.specs.Bit.{bit_at}
-use Rattle.bits.specs.Pack.{bit_at_past}
+use Rattle.bits.proofs.Pack.{bit_at_past}
 use Rattle.record.specs.Walk.{Counts, walk}
 use Rattle.record.specs.Record.{body_length, triple_in}
 use Rattle.record.specs.Read.{kind_of, body_of, end_of, Missing, Several}

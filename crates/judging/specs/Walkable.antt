@@ -7,7 +7,7 @@ use Rattle.record.specs.Record.{body_length, triple_in}
 use Rattle.record.specs.Decode.{decode}
 use Rattle.record.specs.Read.{kind_of, labels_of}
 use Rattle.record.specs.Checked.{Readable}
-use Rattle.record.specs.Demand2Read.{readable_accepted}
+use Rattle.record.proofs.Demand2Read.{readable_accepted}
 use Rattle.judging.specs.Judge.{Body}
 use Rattle.judging.specs.Passed.{tail, body_is, some_bytes, tail_length}
 

@@ -10,7 +10,7 @@ use Rattle.record.specs.Record.{record_of}
 use Rattle.record.specs.Answer.{labels_answer}
 use Rattle.record.specs.Judged as judgement
 use Rattle.record.specs.Judged.{judged_has}
-use Rattle.record.specs.Demand2.{sound→baxter, record_at_most_97}
+use Rattle.record.proofs.Demand2.{sound→baxter, record_at_most_97}
 use Rattle.record.specs.declared.LabelsAnswer.{LabelsAnswer}
 use Rattle.record.specs.declared.LabelsAnswer.TheVariants as answer
 use Rattle.labels.specs.declared.Verdict.{Verdict}

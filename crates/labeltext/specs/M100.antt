@@ -5,13 +5,13 @@ use Rattle.std.specs.Prelude.{List, [], ◌++◌, ◌↔◌, ◌≡◌, refl, �
 use Rattle.std.proofs.Common.{sym, ap, subst, ◌∙◌, arith}
 use Rattle.std.proofs.Math.Seq.{take-append_seam}
 use Rattle.record.specs.Judged.{Sound}
-use Rattle.record.specs.Demand2.{sound→baxter}
+use Rattle.record.proofs.Demand2.{sound→baxter}
 use Rattle.drawing.specs.Drawing.{drawing_of}
 use Rattle.rooms.specs.Equivalent.{Equivalent}
-use Rattle.rooms.specs.GridLabels.{DrawnAs, baxter_gives_drawing}
+use Rattle.rooms.proofs.GridLabels.{DrawnAs, baxter_gives_drawing}
 use Rattle.rooms.specs.PlanOf.{accepted→floorplan}
-use Rattle.rooms.specs.PartnerSegments.{same_labels→equivalent}
-use Rattle.rooms.specs.SameLabels.{equivalent→same_labels}
+use Rattle.rooms.proofs.PartnerSegments.{same_labels→equivalent}
+use Rattle.rooms.proofs.SameLabels.{equivalent→same_labels}
 use Rattle.labeltext.specs.Form.{Lists, KeepsForm}
 use Rattle.labeltext.specs.Decide.{lists_one, dec_keeps_form}
 use Rattle.labeltext.specs.Tidy.{tidy_text}

@@ -17,7 +17,7 @@ use Rattle.digits.specs.Decimal.{space, newline, digit, decimal, field}
 use Rattle.digits.specs.Digits.{decimal_one, decimal_two, decimal_three}
 use Rattle.record.specs.Labels.{label_at, EachOnce}
 use Rattle.record.specs.Judged.{Sound}
-use Rattle.record.specs.Demand2.{sound→baxter}
+use Rattle.record.proofs.Demand2.{sound→baxter}
 use Rattle.labeltext.specs.Tidy.{tidy_rest, tidy_line, tidy_text}
 
 -- the length of the tidy text of the labels 1 to n, in whatever order

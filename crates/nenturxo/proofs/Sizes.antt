@@ -6,7 +6,7 @@ use Prim.Native.Nat.{ℕ, ◌≤◌}
 use native.Mathlib.Omega.{arith}
 use lib.ListN.{length}
 use Rattle.record.specs.Answer.{LabelsIn}
-use Rattle.record.specs.Demand2.{record_at_most_97, wrote_at_most_97}
+use Rattle.record.proofs.Demand2.{record_at_most_97, wrote_at_most_97}
 use Rattle.record.specs.declared.LabelsAnswer.{LabelsAnswer}
 use Rattle.record.specs.declared.LabelsAnswer.TheVariants as labels_in
 use Rattle.labeltext.specs.Answer.{Tidied}
@@ -16,7 +16,7 @@ use Rattle.labeltext.specs.declared.TidyAnswer.TheVariants as tidied
 use Rattle.drawing.specs.declared.Room.{Room}
 use Rattle.rooms.specs.Causes.{AcceptedRooms}
 use Rattle.rooms.specs.LabelList.{label_list, record_of_rooms}
-use Rattle.rooms.specs.Demand3.{rooms_give_baxter}
+use Rattle.rooms.proofs.Demand3.{rooms_give_baxter}
 use Rattle.entering.specs.Answer.{Slices, RoomsIn}
 use Rattle.entering.specs.Demand1.{RoomsSays, count, size, overlap, uncovered, four_meet, name_twice, short, wrote, demand1_rooms_cause}
 use Rattle.entering.specs.declared.RoomsAnswer.{RoomsAnswer}

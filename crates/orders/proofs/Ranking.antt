@@ -12,7 +12,7 @@ use Rattle.drawing.specs.declared.Room.{Room}
 use Rattle.rooms.specs.LabelList.{room_at_position, label_of, label_list}
 use Rattle.rooms.specs.Plan.{Floorplan}
 use Rattle.rooms.specs.PlanOf.{plan_of, accepted→floorplan}
-use Rattle.rooms.specs.Ranks.{positions_1_to_n, room_at_position_lem, length_label_list, label_list_at}
+use Rattle.rooms.proofs.Ranks.{positions_1_to_n, room_at_position_lem, length_label_list, label_list_at}
 use Rattle.points.specs.Listed.{number_at}
 use Rattle.orders.specs.Walks.{Walks}
 use Rattle.orders.specs.InOrder.{InOrder, Ranking, LabelsInOrder}

@@ -7,7 +7,7 @@ use Rattle.rooms.specs.LabelList.{label_of, position_of}
 use Rattle.rooms.specs.Corners.{length_rooms}
 use Rattle.rooms.specs.Plan.{Plan, Floorplan}
 use Rattle.rooms.specs.PlanOf.{accepted→floorplan}
-use Rattle.rooms.specs.Demand3.{rooms_give_baxter}
+use Rattle.rooms.proofs.Demand3.{rooms_give_baxter}
 use Rattle.points.specs.Listed.{number_at}
 use Rattle.points.specs.Paired.{turn_round}
 use Rattle.corners.specs.ListPlan.{rooms_from, list_plan, plan_is}

@@ -8,10 +8,11 @@ use Rattle.rooms.specs.Orders.{LeftOf, BelowOf, AboveOf}
 use Rattle.rooms.specs.LabelList.{label_of, position_of}
 use Rattle.rooms.specs.Plan.{Floorplan}
 use Rattle.rooms.specs.PlanOf.{plan_of}
-use Rattle.rooms.specs.Steps.{left_of→left, left→left_of, below_of→below, below→below_of, above_of→below_of, below_of→above_of}
+use Rattle.rooms.proofs.Steps.{left_of→left, left→left_of, below_of→below, below→below_of, above_of→below_of, below_of→above_of}
 use Rattle.rooms.specs.TwoOrders.{strict}
-use Rattle.rooms.specs.RoomOrders.{position_orders, label_orders}
-use Rattle.rooms.specs.Ranks.{OneToN, position_is_rank, label_is_rank, positions_1_to_n, labels_1_to_n}
+use Rattle.rooms.proofs.RoomOrders.{position_orders, label_orders}
+use Rattle.rooms.specs.Ranks.{OneToN}
+use Rattle.rooms.proofs.Ranks.{position_is_rank, label_is_rank, positions_1_to_n, labels_1_to_n}
 use Rattle.orders.specs.Starts.{Starts}
 use Rattle.orders.specs.AlongLine.{StartsAtCorner, Follows, follows→room}
 use Rattle.orders.specs.Successor.{first→rank_0, last→rank_most, next→rank_one_more}

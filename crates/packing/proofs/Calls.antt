@@ -12,7 +12,7 @@ use Rattle.finite.specs.Decide.{Tells}
 use Rattle.finite.specs.Table.{table}
 use Rattle.record.specs.Labels.{label_at}
 use Rattle.record.specs.Read.{kind_of, labels_of}
-use Rattle.record.specs.Demand2Read.{readable_only_list}
+use Rattle.record.proofs.Demand2Read.{readable_only_list}
 use Rattle.record.specs.declared.Refusal.{Refusal}
 use Rattle.record.specs.declared.Refusal.TheVariants as refusal
 use Rattle.judging.specs.Passed.{tail}

@@ -12,12 +12,6 @@ abbrev pub condition_of : (above : Bool) → Condition
 condition_of true = condition.First
 condition_of false = condition.Second
 
-pub one_of_two : (above : Bool) (which : Condition) → (which ≡ condition_of above) ⊎ (which ≡ condition_of (not above))
-one_of_two true condition.First = inl refl
-one_of_two true condition.Second = inr refl
-one_of_two false condition.First = inr refl
-one_of_two false condition.Second = inl refl
-
 -- next above a label, or next below it
 abbrev pub NextTo : (above : Bool) (label next : ℕ) → Type 0
 NextTo true label next = label + 1 ≡ next
@@ -27,41 +21,9 @@ NextTo false label next = next + 1 ≡ label
 abbrev pub Beyond : (f : ℕ → ℕ) (above : Bool) (label at : ℕ) → Type 0
 Beyond f above label at = ltb label (f at) ≡ above
 
-pub not_both : (f : ℕ → ℕ) (above : Bool) (label at : ℕ) → Beyond f above label at → ¬ Beyond f (not above) label at
-not_both f true label at a b = let z : ◌≡◌ {A = ℕ} 0 1 = cc in omega arith
-not_both f false label at a b = let z : ◌≡◌ {A = ℕ} 0 1 = cc in omega arith
-
 -- four positions whose labels lie so
 pub record BySides (f : ℕ → ℕ) (n : ℕ) (above : Bool) (p : Four) : Type 0 where
   pub order : Ordered n p
   pub j_side : Beyond f above (f p.i) p.j
   pub k_side : Beyond f (not above) (f p.i) p.k
   pub last : NextTo above (f p.i) (f p.l)
-
-module _ (f : ℕ → ℕ) (n : ℕ) (p : Four) where
-  pub by_sides : (above : Bool) → PatternAt f n (condition_of above) p → BySides f n above p
-  by_sides true x =
-      let j-above = lt-ltb (f p.i) (f p.j) (omega (arith, x.meets)) in
-      let k-below = le-ltb (f p.i) (f p.k) (omega (arith, x.meets)) in
-      record { order = x.order; j_side = j-above; k_side = k-below; last = x.meets.1 }
-  by_sides false x =
-      let j-below = le-ltb (f p.i) (f p.j) (omega (arith, x.meets)) in
-      let k-above = lt-ltb (f p.i) (f p.k) (omega (arith, x.meets)) in
-      record { order = x.order; j_side = j-below; k_side = k-above; last = x.meets.1 }
-
-  -- and such positions are a pattern where no label occurs twice
-  pub sides_pattern : EachOnce f n → (above : Bool) → BySides f n above p → PatternAt f n (condition_of above) p
-  sides_pattern each true x =
-      let o = x.order in
-      let apart : f p.j ≢ f p.l =
-      λ e. omega (arith, o, each.once p.j p.l (omega (arith, o)) (omega (arith, o)) (omega (arith, o)) o.end e) in
-      let j-above = ltb-true (f p.i) (f p.j) x.j_side in
-      let k-below = ltb-false (f p.i) (f p.k) x.k_side in
-      record { order = o; meets = omega (arith, x.last) }
-  sides_pattern each false x =
-      let o = x.order in
-      let apart : f p.i ≢ f p.j =
-      λ e. omega (arith, o, each.once p.i p.j o.start (omega (arith, o)) (omega (arith, o)) (omega (arith, o)) e) in
-      let j-below = ltb-false (f p.i) (f p.j) x.j_side in
-      let k-above = ltb-true (f p.i) (f p.k) x.k_side in
-      record { order = o; meets = omega (arith, x.last) }

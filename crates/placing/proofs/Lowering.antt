@@ -12,13 +12,13 @@ use Rattle.steps.specs.Turn.{Says}
 use Rattle.steps.specs.Stack.{either}
 use Rattle.sizes.specs.Direction.{Direction, across, upward}
 use Rattle.sizes.specs.Lowest.{start_at, needed_length}
-use Rattle.sizes.specs.LowestLaws.{starts_at_furthest_end, start_small, first_start}
-use Rattle.sizes.specs.Lines.{LineAt, line_of_all}
+use Rattle.sizes.proofs.LowestLaws.{starts_at_furthest_end, start_small, first_start}
+use Rattle.sizes.proofs.Lines.{LineAt, line_of_all}
 use Rattle.judging.specs.Walkable.{Walkable}
 use Rattle.placing.specs.Along as along
 use Rattle.placing.specs.Along.{LowestFor}
-use Rattle.sizes.specs.OneWay.{Walks, accepted_walks}
-use Rattle.sizes.specs.Turned.{TurnFits, Turned, turned_first, turn_fits, turned_next, left_is, bottom_is}
+use Rattle.sizes.proofs.OneWay.{Walks, accepted_walks}
+use Rattle.sizes.proofs.Turned.{TurnFits, Turned, turned_first, turn_fits, turned_next, left_is, bottom_is}
 
 module _ (body widths heights : List ℕ) where
   abbrev pub rooms : ℕ

@@ -10,7 +10,7 @@ use Rattle.digits.specs.Decimal.{newline, field}
 use Rattle.finite.specs.Put.{Put, put_none, put_more}
 use Rattle.text.specs.Form.{filled}
 use Rattle.counting.specs.Ways.{plan_count}
-use Rattle.counting.specs.Figures.{count_how_many}
+use Rattle.counting.proofs.Figures.{count_how_many}
 use Rattle.plancount.specs.Text.{line_of, lines_of, up_to, Printed}
 
 -- ---- a line: a form, then the figure

@@ -14,7 +14,7 @@ use Rattle.rooms.specs.Outline.{SixteenBits}
 use Rattle.rooms.specs.Causes.{AcceptedRooms}
 use Rattle.rooms.specs.LabelList.{record_of_rooms}
 use Rattle.rooms.specs.Equivalent.{Equivalent}
-use Rattle.rooms.specs.Demand3.{demand3_same_record_iff_equivalent, demand3_read_iff_record_of_rooms}
+use Rattle.rooms.proofs.Demand3.{demand3_same_record_iff_equivalent, demand3_read_iff_record_of_rooms}
 use Rattle.answers.specs.Answer as answers
 use Rattle.answers.specs.Demand1.{refused_record, written as read-written, demand1_record_answer}
 use Rattle.answers.specs.declared.RecordAnswer.{RecordAnswer}

@@ -5,13 +5,13 @@ use Rattle.std.proofs.Math.Seq.{take-append_seam}
 use Rattle.bits.specs.Bit.{Bytes}
 use Rattle.record.specs.Read.{kind_of, labels_of}
 use Rattle.record.specs.Checked.{Readable}
-use Rattle.record.specs.Demand2Read.{demand2_read_only_list}
+use Rattle.record.proofs.Demand2Read.{demand2_read_only_list}
 use Rattle.drawing.specs.declared.Room.{Room}
 use Rattle.drawing.specs.Drawing.{drawing_of}
 use Rattle.rooms.specs.Causes.{AcceptedRooms}
 use Rattle.rooms.specs.LabelList.{record_of_rooms}
 use Rattle.rooms.specs.GridFloorplan.{length_drawing}
-use Rattle.rooms.specs.Demand3.{drawing_of_record}
+use Rattle.rooms.proofs.Demand3.{drawing_of_record}
 use Rattle.answers.specs.Answer as answers
 use Rattle.answers.specs.Demand1.{RecordSays, refused_record, short, written, demand1_record_cause}
 use Rattle.answers.specs.declared.RecordAnswer.{RecordAnswer}

@@ -10,7 +10,7 @@ use Rattle.finite.specs.Decide.{Tells, tells_iff}
 use Rattle.record.specs.Labels.{label_at}
 use Rattle.record.specs.Read.{kind_of, labels_of}
 use Rattle.record.specs.Checked.{Readable}
-use Rattle.record.specs.Demand2Read.{readable_only_list}
+use Rattle.record.proofs.Demand2Read.{readable_only_list}
 use Rattle.record.specs.declared.Refusal.TheVariants.{PositionOutside, SamePosition}
 use Rattle.drawing.specs.declared.Room.{Room}
 use Rattle.drawing.specs.Drawing.{room_at}
@@ -19,9 +19,9 @@ use Rattle.drawing.specs.Side.{side_of}
 use Rattle.drawing.specs.declared.Side.{Side}
 use Rattle.drawing.specs.declared.Relation.{Relation}
 use Rattle.contacts.specs.Direct.{PositionsDirect}
-use Rattle.contacts.specs.M102.{m102_positions_direct_iff_face_on_one_line}
+use Rattle.contacts.proofs.M102.{m102_positions_direct_iff_face_on_one_line}
 use Rattle.contacts.specs.Touches.{PositionsTouch}
-use Rattle.contacts.specs.M101.{m101_positions_touch_iff_share_inner_line}
+use Rattle.contacts.proofs.M101.{m101_positions_touch_iff_share_inner_line}
 use Rattle.questions.specs.Demand1.{outside, same, related, demand1_question_answer}
 use Rattle.questions.specs.Answer.{Outside, question_answer}
 use Rattle.questions.specs.declared.QuestionAnswer.TheVariants.{Related, Refused}

@@ -13,7 +13,7 @@ use Rattle.record.specs.declared.Refusal.TheVariants.{PositionOutside, SamePosit
 use Rattle.drawing.specs.declared.Relation.{Relation}
 use Rattle.drawing.specs.Side.{side_of}
 use Rattle.contacts.specs.Direct.{PositionsDirect, dec_positions_direct, relation_of}
-use Rattle.contacts.specs.DirectFacts.{relation_told}
+use Rattle.contacts.proofs.DirectFacts.{relation_told}
 use Rattle.contacts.specs.Touches.{PositionsTouch}
 use Rattle.contacts.specs.DecideTouches.{dec_positions_touch}
 use Rattle.questions.specs.Answer.{Outside, dec_outside, question_answer}

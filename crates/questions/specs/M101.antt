@@ -9,7 +9,7 @@ use Rattle.rooms.specs.LabelList.{position_of, label_list, record_of_rooms}
 use Rattle.contacts.specs.Direct.{relation_of}
 use Rattle.contacts.specs.Touches.{Touches, PositionsTouch}
 use Rattle.contacts.specs.DecideTouches.{dec_positions_touch}
-use Rattle.contacts.specs.M101.{m101_rooms_touch_iff_positions_touch}
+use Rattle.contacts.proofs.M101.{m101_rooms_touch_iff_positions_touch}
 use Rattle.questions.specs.Answer.{question_answer}
 use Rattle.questions.specs.OfRooms.{question_of_rooms}
 use Rattle.questions.specs.declared.QuestionAnswer.TheVariants.{Related}

@@ -7,23 +7,23 @@ use Rattle.std.proofs.Math.Logic.{⊎_swap}
 use Rattle.finite.specs.Decide.{Tells, tells_iff, tells_same, told_true, told_false, holds, holds_tells}
 use Rattle.record.specs.Labels.{label_at}
 use Rattle.record.specs.Read.{kind_of, labels_of}
-use Rattle.record.specs.Demand2Read.{readable_only_list}
+use Rattle.record.proofs.Demand2Read.{readable_only_list}
 use Rattle.drawing.specs.declared.Room.{Room}
 use Rattle.drawing.specs.declared.Relation.{Relation}
 use Rattle.drawing.specs.Side.{converse}
-use Rattle.drawing.specs.SideFacts.{side_exchanged}
+use Rattle.drawing.proofs.SideFacts.{side_exchanged}
 use Rattle.drawing.specs.Drawing.{drawing_of}
 use Rattle.rooms.specs.Causes.{AcceptedRooms}
 use Rattle.rooms.specs.LabelList.{position_of, label_list, record_of_rooms}
 use Rattle.rooms.specs.Direct.{Direct, Stands}
-use Rattle.rooms.specs.Stands.{rooms_stand}
+use Rattle.rooms.proofs.Stands.{rooms_stand}
 use Rattle.rooms.specs.GridFloorplan.{drawing_floorplan}
 use Rattle.contacts.specs.Direct.{OnlyThrough, PositionsDirect, dec_positions_direct, relation_of}
-use Rattle.contacts.specs.DirectFacts.{direct_iff_turned, direct→touches}
+use Rattle.contacts.proofs.DirectFacts.{direct_iff_turned, direct→touches}
 use Rattle.contacts.specs.Touches.{PositionsTouch}
 use Rattle.contacts.specs.DecideTouches.{dec_positions_touch}
-use Rattle.contacts.specs.M101.{m101_touch_symmetric}
-use Rattle.contacts.specs.M102.{m102_direct_or_only_through, m102_rooms_direct_iff_positions_direct}
+use Rattle.contacts.proofs.M101.{m101_touch_symmetric}
+use Rattle.contacts.proofs.M102.{m102_direct_or_only_through, m102_rooms_direct_iff_positions_direct}
 use Rattle.questions.specs.Answer.{question_answer}
 use Rattle.questions.specs.Demand1.{QuestionSays, refused_record, outside, same, related, demand1_question_cause, demand1_question_answer}
 use Rattle.questions.specs.OfRooms.{question_of_rooms}

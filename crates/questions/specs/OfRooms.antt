@@ -8,8 +8,8 @@ use Rattle.drawing.specs.declared.Room.{Room}
 use Rattle.rooms.specs.Causes.{AcceptedRooms}
 use Rattle.rooms.specs.LabelList.{position_of, label_list, record_of_rooms}
 use Rattle.rooms.specs.Ranks.{OneToN}
-use Rattle.rooms.specs.LabelFacts.{positions_are_1_to_n}
-use Rattle.rooms.specs.Demand3.{record_of_rooms_readable, label_list_back, kind_of_rooms}
+use Rattle.rooms.proofs.LabelFacts.{positions_are_1_to_n}
+use Rattle.rooms.proofs.Demand3.{record_of_rooms_readable, label_list_back, kind_of_rooms}
 use Rattle.contacts.specs.Direct.{relation_of, dec_positions_direct}
 use Rattle.contacts.specs.DecideTouches.{dec_positions_touch}
 use Rattle.questions.specs.Answer.{Outside, question_answer}

@@ -2,7 +2,7 @@
 use Rattle.std.specs.Prelude.{Bool, true, false, ◌&&◌, List, ◌≡◌, refl, ℕ, zero, suc, ◌+◌, ◌-◌, ◌*◌, ◌/◌, ◌%◌, ◌≤◌, ◌<◌, ltb, length}
 use Rattle.std.proofs.Common.{sym, ap, ◌∙◌, arith, ltb-true, ltb-false}
 use Rattle.bits.specs.Bit.{bit_at, Bytes, pack}
-use Rattle.bits.specs.Pack.{length_pack, bytes_pack, bit_at_pack, same_bits}
+use Rattle.bits.proofs.Pack.{length_pack, bytes_pack, bit_at_pack, same_bits}
 use Rattle.record.specs.Triple.{Triple}
 use Rattle.record.specs.Record.{triple_bit, body_bit, triple_in}
 

@@ -17,17 +17,9 @@ pub mod Positions
 pub mod Read
 pub mod Body
 pub mod TripleNumber
-pub mod NextTo
-pub mod Rising
-pub mod Forward
 pub mod Sizes
-pub mod Backward
-pub mod Newest
-pub mod Entered
 pub mod Demand1
-pub mod Demand2
 pub mod Checked
-pub mod Demand2Read
 -- A triple set in a record
 pub mod TripleSet
 pub mod M104

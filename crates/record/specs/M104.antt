@@ -5,7 +5,7 @@ use Rattle.std.specs.Prelude.{List, ◌∷◌, ◌≢◌, ◌≡◌, refl, ℕ, 
 use Rattle.std.proofs.Common.{inl, inr, sym, ap, subst, ◌∙◌, arith}
 use Rattle.finite.specs.Decide.{le_or_lt}
 use Rattle.bits.specs.Bit.{bit_at, Bytes, GroupSet}
-use Rattle.bits.specs.Pack.{same_byte, bit_at_first, bit_at_after, bit_at_drop}
+use Rattle.bits.proofs.Pack.{same_byte, bit_at_first, bit_at_after, bit_at_drop}
 use Rattle.record.specs.Triple.{Triple}
 use Rattle.record.specs.Record.{triple_in}
 use Rattle.record.specs.Read.{kind_of, body_of}

@@ -21,9 +21,9 @@ use Rattle.steps.specs.Turn.{Says}
 use Rattle.steps.specs.Stack.{either}
 use Rattle.judging.specs.Walkable.{labels_in, Walkable}
 use Rattle.sizes.specs.Direction.{Direction, across, upward}
-use Rattle.sizes.specs.LowestLaws.{before→earlier}
-use Rattle.sizes.specs.OneWay.{Walks, accepted_walks}
-use Rattle.sizes.specs.Turned.{TurnFits, Turned, turned_first, turn_fits, turned_next, left_is, bottom_is}
+use Rattle.sizes.proofs.LowestLaws.{before→earlier}
+use Rattle.sizes.proofs.OneWay.{Walks, accepted_walks}
+use Rattle.sizes.proofs.Turned.{TurnFits, Turned, turned_first, turn_fits, turned_next, left_is, bottom_is}
 use Rattle.groups.specs.Group.{Member, EachIn}
 use Rattle.groups.specs.Pairs.{SomeBefore}
 use Rattle.relating.proofs.Reached.{Reached, start_of, start_marks, size_of, end_is, first_start, furthest_is_start}

@@ -11,7 +11,7 @@ use Rattle.finite.specs.Count.{indicator}
 use Rattle.finite.specs.Marks.{Marks, marks_le, marks_indicator, marks_yes, marks_no, marks_once}
 use Rattle.sizes.specs.Direction.{Direction, Before, dec_before}
 use Rattle.sizes.specs.Lowest.{furthest_before}
-use Rattle.sizes.specs.LowestLaws.{before→earlier, before_trans, furthest_ge, furthest_smallest}
+use Rattle.sizes.proofs.LowestLaws.{before→earlier, before_trans, furthest_ge, furthest_smallest}
 use Rattle.groups.specs.Group.{Member, dec_member}
 
 module _ (f : ℕ → ℕ) (n : ℕ) (first : List ℕ) where

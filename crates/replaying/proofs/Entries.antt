@@ -10,7 +10,8 @@ use Rattle.record.specs.Walk.{Counts, missing, counts, step, and_then}
 use Rattle.record.specs.Read.{Missing}
 use Rattle.traces.specs.State.{counts_of, runs_in, entry_of}
 use Rattle.traces.specs.Newest.{counts_add}
-use Rattle.traces.specs.Still.{Built, built_few, counted, built_runs}
+use Rattle.traces.specs.Still.{Built}
+use Rattle.traces.proofs.Still.{built_few, counted, built_runs}
 use Rattle.steps.specs.Told.{bit_le}
 use Rattle.steps.specs.Table.{Meets, step_meets, once_risen}
 use Rattle.replaying.specs.Packed.{gain_of}

@@ -10,7 +10,7 @@ use Rattle.record.specs.declared.Refusal.{Refusal}
 use Rattle.traces.specs.Move.{moves_of}
 use Rattle.traces.specs.State.{counts_of}
 use Rattle.traces.specs.Replay.{ended, replay_from, replay}
-use Rattle.traces.specs.Row.{replay_next, replay_refused}
+use Rattle.traces.proofs.Row.{replay_next, replay_refused}
 use Rattle.traces.specs.Still.{start}
 use Rattle.replaying.specs.declared.Judged.TheVariants.{Ended, Stopped}
 use Rattle.replaying.specs.Packed.{CountsRuns}

@@ -13,7 +13,8 @@ use Rattle.traces.specs.Move.{add}
 use Rattle.traces.specs.State.{rooms_of, counts_of, runs_in, runs_of}
 use Rattle.traces.specs.Newest.{counts_add}
 use Rattle.traces.specs.Cause.{Refuses, past_255, missing_run, only_room, several_runs, Makes, added, taken, claimed}
-use Rattle.traces.specs.Still.{Built, grown, built_few, Counted, counted}
+use Rattle.traces.specs.Still.{Built, grown}
+use Rattle.traces.proofs.Still.{built_few, Counted, counted}
 use Rattle.replaying.specs.Packed.{packed, row_of, CountsRuns}
 use Rattle.replaying.specs.Turn.{packed_of, Stands, Kept, back_move, GoesBack}
 use Rattle.replaying.proofs.Lands.{Lacks, Lands, lands, lands_missing, lands_there}

@@ -10,7 +10,8 @@ use Rattle.record.specs.declared.Refusal.{Refusal}
 use Rattle.record.specs.declared.Refusal.TheVariants.{TooLong, ShortOutput}
 use Rattle.traces.specs.Move.{moves_of}
 use Rattle.traces.specs.Replay.{Replay, ended, stopped, replay}
-use Rattle.traces.specs.Row.{NoneRefused, ended_iff_leads}
+use Rattle.traces.specs.Row.{NoneRefused}
+use Rattle.traces.proofs.Row.{ended_iff_leads}
 use Rattle.traces.specs.Answer.{replay_answer, trace_answer, entries_of, Traced}
 use Rattle.traces.specs.declared.TraceAnswer.{TraceAnswer}
 use Rattle.traces.specs.declared.TraceAnswer.TheVariants.{Replayed, RefusedMove, Refused}

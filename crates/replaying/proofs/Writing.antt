@@ -14,8 +14,10 @@ use Rattle.traces.specs.Move.{Move, add, take_away, claim, unknown, moves_of}
 use Rattle.traces.specs.State.{rooms_of, counts_of, entry_of}
 use Rattle.traces.specs.Replay.{states_from}
 use Rattle.traces.specs.Cause.{Makes, added, taken, claimed}
-use Rattle.traces.specs.Row.{Leads, more, NoneRefused, states_next}
-use Rattle.traces.specs.Still.{Built, start, built_on, built_few}
+use Rattle.traces.specs.Row.{Leads, more, NoneRefused}
+use Rattle.traces.proofs.Row.{states_next}
+use Rattle.traces.specs.Still.{Built, start}
+use Rattle.traces.proofs.Still.{built_on, built_few}
 use Rattle.traces.specs.Answer.{entries_of}
 use Rattle.replaying.specs.Packed.{gain_of}
 use Rattle.replaying.specs.Turn.{Below, Kept, back_move}

@@ -8,7 +8,7 @@ use Rattle.finite.specs.Decide.{eq_or_ne}
 use Rattle.record.specs.Labels.{label_at, EachOnce}
 use Rattle.record.specs.Barred.{Barred, Baxter}
 use Rattle.record.specs.Way.{Way, up, down, Less, Past, past_trans, past_not_back, Order, before, same, after, order}
-use Rattle.record.specs.NextTo.{between_seen}
+use Rattle.record.proofs.NextTo.{between_seen}
 use Rattle.drawing.specs.declared.Room.{Room}
 use Rattle.drawing.specs.Drawing.{drawing_of}
 use Rattle.drawing.specs.Nearest.{Nearest, last_nearest, first_nearest}

@@ -15,14 +15,7 @@ pub mod OutlineLaws
 pub mod DecideCauses
 pub mod DecideSegment
 -- Theorems
-pub mod SegmentFacts
-pub mod RelationFacts
-pub mod LabelFacts
 pub mod GridFloorplan
-pub mod GridLabels
-pub mod Stands
-pub mod Demand3
-pub mod M106
 -- What they rest on: a room list as a plan
 pub mod Plan
 pub mod EdgesAtPoint
@@ -38,18 +31,8 @@ pub mod TwoOrders
 pub mod FourRelations
 -- segments, and the relations of a list
 pub mod Runs
-pub mod SegmentOfEdge
-pub mod Steps
-pub mod OutlineSides
-pub mod RoomOrders
 pub mod Ranks
-pub mod LabelsBaxter
 -- equivalence
-pub mod SameSegment
-pub mod PartnerRooms
-pub mod PartnerSegments
-pub mod SameLabels
 -- the grid drawing
 pub mod GridRelations
 -- Worked plans
-pub mod Worked

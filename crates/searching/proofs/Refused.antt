@@ -9,7 +9,7 @@ use Rattle.record.specs.Judged as judged
 use Rattle.record.specs.Judged.{Permutation, RefusesLabels}
 use Rattle.record.specs.declared.Refusal.{Refusal}
 use Rattle.patterns.specs.Answer.{pattern_answer}
-use Rattle.patterns.specs.M105.{refused, m105_answer}
+use Rattle.patterns.proofs.M105.{refused, m105_answer}
 use Rattle.patterns.specs.declared.PatternAnswer.TheVariants.{Refused}
 
 module _ (labels : List ℕ) where

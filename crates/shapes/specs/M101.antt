@@ -5,10 +5,10 @@ use Rattle.std.proofs.Common.{inr, arith}
 use Rattle.record.specs.Labels.{label_at}
 use Rattle.record.specs.Read.{kind_of, labels_of}
 use Rattle.record.specs.Checked.{Readable}
-use Rattle.record.specs.Demand2Read.{readable_only_list}
+use Rattle.record.proofs.Demand2Read.{readable_only_list}
 use Rattle.drawing.specs.Drawing.{room_at}
 use Rattle.contacts.specs.GridLine.{line_at, InnerSegmentsAre}
-use Rattle.contacts.specs.GridSegments.{lines_are_inner_segments}
+use Rattle.contacts.proofs.GridSegments.{lines_are_inner_segments}
 
 pub m101_lines_are_inner_segments : (bytes : List ℕ) → Readable bytes
     → let labels = labels_of bytes in InnerSegmentsAre labels (line_at (label_at labels) (room_at (label_at labels) (length labels)))

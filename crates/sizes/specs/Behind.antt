@@ -10,7 +10,7 @@ use Rattle.record.specs.Labels.{EachOnce}
 use Rattle.record.specs.Barred.{Barred}
 use Rattle.record.specs.Triple.{Earlier}
 use Rattle.record.specs.Way.{Way, other, Less, Past, Beside, past_trans, past_not_self, past_not_back, past_turn, beside_past, beside_tight, next_toward, Order, before, same, after, order}
-use Rattle.record.specs.NextTo.{Seen, between_seen}
+use Rattle.record.proofs.NextTo.{Seen, between_seen}
 use Rattle.drawing.specs.Nearest.{Nearest}
 
 -- room i is one of the first k, and each label past that of room k, as far as its own, is seen there

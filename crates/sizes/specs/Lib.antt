@@ -8,18 +8,12 @@ pub mod Placed
 pub mod Answer
 -- Theorems
 pub mod Demand1
-pub mod M108
 -- What they and the code rest on
-pub mod LowestLaws
 pub mod CornersFacts
 pub mod SlackFacts
 pub mod SideFacts
-pub mod OfRooms
 pub mod Behind
-pub mod Lines
 -- The walk along a record's triples
 pub mod Stacked
-pub mod OneWay
-pub mod Turned
 -- Worked examples
 pub mod Worked

@@ -9,8 +9,8 @@ use lib.ListN.{length, get_or}
 use Rattle.finite.specs.Decide.{eq_or_ne}
 use Rattle.record.specs.Walk.{step}
 use Rattle.counting.specs.Ways.{ways, plan_count}
-use Rattle.counting.specs.Begun.{begun, ways_falls, ways_both, falls_most, rises_most, too_few_falls, ways_small}
-use Rattle.counting.specs.Mirror.{too_few_rises}
+use Rattle.counting.proofs.Begun.{begun, ways_falls, ways_both, falls_most, rises_most, too_few_falls, ways_small}
+use Rattle.counting.proofs.Mirror.{too_few_rises}
 use Rattle.tallying.specs.Plane.{PlaneFits, Swept}
 use Rattle.tallying.specs.Shows.{Shows, plane_after, Planes}
 use Rattle.tallying.proofs.Sweeping.{Step, plane_fits, swept_shows, swept_other, shown, shows_as}

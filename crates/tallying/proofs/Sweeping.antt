@@ -8,7 +8,7 @@ use native.Mathlib.Omega.{arith}
 use lib.ListN.{length, get_or}
 use Rattle.finite.specs.Decide.{le_or_lt}
 use Rattle.record.specs.Walk.{step}
-use Rattle.counting.specs.Begun.{begun}
+use Rattle.counting.proofs.Begun.{begun}
 use Rattle.tallying.specs.Plane.{cell_of, PlaneFits, Swept}
 use Rattle.tallying.specs.Shows.{bordered, Shows}
 

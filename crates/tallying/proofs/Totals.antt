@@ -8,9 +8,10 @@ use lib.ListN.{length, get_or}
 use Rattle.finite.specs.Decide.{le_or_lt}
 use Rattle.finite.specs.Fill.{Filling}
 use Rattle.counting.specs.Ways.{plan_total}
-use Rattle.counting.specs.AllWays.{all_ways, total_all_ways}
-use Rattle.counting.specs.Begun.{all_both, all_ways_small}
-use Rattle.counting.specs.Mirror.{too_few_triples}
+use Rattle.counting.specs.AllWays.{all_ways}
+use Rattle.counting.proofs.AllWays.{total_all_ways}
+use Rattle.counting.proofs.Begun.{all_both, all_ways_small}
+use Rattle.counting.proofs.Mirror.{too_few_triples}
 use Rattle.tallying.specs.Plane.{copy_of, PlaneFits, Swept}
 use Rattle.tallying.specs.Shows.{bordered, Shows, BothPlanes}
 use Rattle.tallying.proofs.Sweeping.{Step, plane_fits, swept_shows, shown, shows_as}

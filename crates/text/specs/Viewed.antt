@@ -8,7 +8,7 @@ use Rattle.record.specs.Labels.{label_at}
 use Rattle.record.specs.Read.{kind_of, body_of, labels_of}
 use Rattle.record.specs.Record.{triple_in}
 use Rattle.record.specs.Refusal.{number_of}
-use Rattle.record.specs.Backward.{length_decode}
+use Rattle.record.proofs.Backward.{length_decode}
 use Rattle.record.specs.Checked.{checked, Sorted, refused, read, sorted, refused_checked, readable_checked}
 use Rattle.record.specs.declared.Refusal.{Refusal}
 use Rattle.drawing.specs.Corners.{room_in}

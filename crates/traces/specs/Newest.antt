@@ -5,7 +5,7 @@ use Rattle.std.proofs.Math.Path.{ap₂}
 use native.Mathlib.Omega.{arith}
 use Rattle.record.specs.Triple.{Triple, triple}
 use Rattle.record.specs.Walk.{Counts, missing, counts, step, and_then, walk}
-use Rattle.record.specs.Demand2Read.{walk_same}
+use Rattle.record.proofs.Demand2Read.{walk_same}
 use Rattle.steps.specs.Table.{Meets, step_meets, once_risen}
 use Rattle.traces.specs.State.{rooms_of, present_at, counts_of}
 

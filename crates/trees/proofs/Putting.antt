@@ -12,11 +12,13 @@ use Rattle.finite.specs.Put.{Put, put_none, put_one, put_more, put_as}
 use Rattle.record.specs.Labels.{label_at, label_at_lem}
 use Rattle.slicing.specs.Cuts.{opposite, Before, Parts, dec_before}
 use Rattle.slicing.specs.Tree.{leaf, node, Trees, none, ◌then◌, count, Blocks, bytes_of, bytes_of_all, kind_of_cut}
-use Rattle.slicing.specs.Order.{before_itself, before_back, before_turned}
-use Rattle.slicing.specs.Blocks.{Whole, blocks_count}
-use Rattle.slicing.specs.Size.{bytes_of_blocks}
-use Rattle.slicing.specs.Lines.{append, count_append, bytes_append, blocks_joined, blocks_from, blocks_upto, leaf_block, node_block, line_between_lem, several_blocks, one_block_lem}
-use Rattle.slicing.specs.Interval.{place_of, first_places→parts, interval_of_first, interval_of_rest, lowest_of_first, lowest_of_rest}
+use Rattle.slicing.proofs.Order.{before_itself, before_back, before_turned}
+use Rattle.slicing.specs.Blocks.{Whole}
+use Rattle.slicing.proofs.Blocks.{blocks_count}
+use Rattle.slicing.proofs.Size.{bytes_of_blocks}
+use Rattle.slicing.proofs.Lines.{append, count_append, bytes_append, blocks_joined, blocks_from, blocks_upto, leaf_block, node_block, line_between_lem, several_blocks, one_block_lem}
+use Rattle.slicing.specs.Interval.{place_of, lowest_of_first, lowest_of_rest}
+use Rattle.slicing.proofs.Interval.{first_places→parts, interval_of_first, interval_of_rest}
 use Rattle.slicing.specs.declared.Cut.{Cut}
 use Rattle.slicing.specs.declared.Cut.TheVariants.{Vertical, Horizontal}
 use Rattle.trees.specs.Block.{BlockOf, FirstBefore, one_block, FindsLine, TreesStand, NoTrees, Part, EndsPart}

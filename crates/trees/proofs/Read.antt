@@ -10,8 +10,8 @@ use Rattle.record.specs.Labels.{label_at, EachOnce}
 use Rattle.record.specs.Decode.{label_of}
 use Rattle.record.specs.Read.{kind_of, labels_of}
 use Rattle.record.specs.Checked.{Readable}
-use Rattle.record.specs.Demand2.{OnlyList}
-use Rattle.record.specs.Demand2Read.{readable_only_list}
+use Rattle.record.proofs.Demand2.{OnlyList}
+use Rattle.record.proofs.Demand2Read.{readable_only_list}
 use Rattle.record.specs.declared.Refusal.TheVariants as refusal
 use Rattle.reading.specs.Answer.{triples_of}
 use Rattle.answers.specs.Drawn.{labels_front}

@@ -9,8 +9,8 @@ use Rattle.record.specs.Labels.{label_at, label_at_lem}
 use Rattle.slicing.specs.Slicing.{Shaped, dec_shaped}
 use Rattle.slicing.specs.Cuts.{Before}
 use Rattle.slicing.specs.Tree.{TreeOf, none, ◌then◌, bytes_of, bytes_of_all}
-use Rattle.slicing.specs.Lines.{block_is_tree, tree_is_block}
-use Rattle.slicing.specs.M103.{m103_slicing_iff_tree, m103_tree_by_cutting, m103_tree_at_most}
+use Rattle.slicing.proofs.Lines.{block_is_tree, tree_is_block}
+use Rattle.slicing.proofs.M103.{m103_slicing_iff_tree, m103_tree_by_cutting, m103_tree_at_most}
 use Rattle.slicing.specs.declared.Cut.{Cut}
 use Rattle.trees.specs.Block.{BlockOf, FirstBefore, TreesStand, NoTrees, Puts}
 use Rattle.trees.specs.Written.{Plan, TreeWritten, Writes}

@@ -2,7 +2,7 @@
 use mathlib.Core.Path.{◌∙◌}
 use Rattle.finite.specs.Decide.{told_true, told_false}
 use Rattle.judging.specs.Walkable.{readable_walkable}
-use Rattle.groups.specs.Demand1.{refused_record, demand1_groups_answer}
+use Rattle.groups.proofs.Demand1.{refused_record, demand1_groups_answer}
 use Rattle.grouping.proofs.Asking.{past_rooms, none_in, shared_position, fits, answered}
 use Rattle.grouping.proofs.groups.Goals as goal
 

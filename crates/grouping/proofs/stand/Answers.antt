@@ -7,7 +7,7 @@ use native.Mathlib.Omega.{arith}
 use Rattle.record.specs.Labels.{label_at, EachOnce}
 use Rattle.record.specs.Record.{triple_in}
 use Rattle.judging.specs.Walkable.{labels_in}
-use Rattle.sizes.specs.OneWay.{accepted_walks}
+use Rattle.sizes.proofs.OneWay.{accepted_walks}
 use Rattle.grouping.proofs.Standing.{last_fits, ahead, standing_ahead, standing_behind, standing_interleaved}
 use Rattle.grouping.proofs.stand.Goals as goal
 use Rattle.grouping.proofs.stand.Goals.{Start}

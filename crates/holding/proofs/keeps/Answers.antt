@@ -7,7 +7,7 @@ use Rattle.record.specs.Record.{triple_in}
 use Rattle.record.specs.TripleNumber.{triple_of, group_triple}
 use Rattle.steps.specs.Turn.{Says}
 use Rattle.sizes.specs.Direction.{across, upward}
-use Rattle.sizes.specs.Turned.{TurnFits}
+use Rattle.sizes.proofs.Turned.{TurnFits}
 use Rattle.holding.proofs.Holding.{honoured_all, all_honoured, holding_first, holding_fits, broken_across, broken_upward, holding_next, holding_end}
 use Rattle.holding.proofs.keeps.Goals as goal
 use Rattle.holding.proofs.keeps.Goals.{After-turn_of-turn}

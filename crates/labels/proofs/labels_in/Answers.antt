@@ -13,7 +13,7 @@ use Rattle.record.specs.Record.{body_length, record_of}
 use Rattle.record.specs.Causes.{BadCount, dec_barred}
 use Rattle.record.specs.Judged.{Permutation, Sound, barred}
 use Rattle.record.specs.Demand1.{refused, short, wrote, demand1_labels_answer}
-use Rattle.record.specs.Demand2.{each_once, once_single, record_length}
+use Rattle.record.proofs.Demand2.{each_once, once_single, record_length}
 use Rattle.record.specs.declared.LabelsAnswer.TheVariants.{Wrote}
 use Rattle.encoding.specs.Encoded.{Encoded}
 use Rattle.labels.proofs.labels_in.Goals as goal

@@ -1,6 +1,6 @@
 -- `nenturxo::nenturxo_plan_count` meets its contract: the answer of Plan count, as a number of 64 bits.
 use borrow.Author.Rules.{rules}
-use Rattle.counting.specs.Sizes.{m112_count_fits}
+use Rattle.counting.proofs.Sizes.{m112_count_fits}
 use Rattle.nenturxo.proofs.nenturxo_plan_count.Statement.{statement}
 use Rattle.nenturxo.proofs.nenturxo_plan_count.Tie as tie
 

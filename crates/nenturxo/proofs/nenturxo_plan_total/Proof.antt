@@ -1,6 +1,6 @@
 -- `nenturxo::nenturxo_plan_total` meets its contract: the answer of Plan total, as a number of 64 bits.
 use borrow.Author.Rules.{rules}
-use Rattle.counting.specs.Sizes.{m112_total_fits}
+use Rattle.counting.proofs.Sizes.{m112_total_fits}
 use Rattle.nenturxo.proofs.nenturxo_plan_total.Statement.{statement}
 use Rattle.nenturxo.proofs.nenturxo_plan_total.Tie as tie
 

@@ -1,6 +1,6 @@
 -- `nenturxo::nenturxo_trace` meets its contract: the answer of Trace, as a number of 64 bits.
 use borrow.Author.Rules.{rules}
-use Rattle.traces.specs.Sizes.{traced_fits}
+use Rattle.traces.proofs.Sizes.{traced_fits}
 use Rattle.nenturxo.proofs.nenturxo_trace.Statement.{statement}
 use Rattle.nenturxo.proofs.nenturxo_trace.Tie as tie
 

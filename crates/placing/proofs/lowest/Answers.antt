@@ -6,7 +6,7 @@ use Rattle.record.specs.Triple.{Triple}
 use Rattle.record.specs.Record.{triple_in}
 use Rattle.record.specs.TripleNumber.{triple_of, group_triple}
 use Rattle.steps.specs.Turn.{Says}
-use Rattle.sizes.specs.Turned.{TurnFits}
+use Rattle.sizes.proofs.Turned.{TurnFits}
 use Rattle.placing.proofs.Lowering.{lowering_first, lowering_fits, left_small, bottom_small, lowering_next, lowering_end}
 use Rattle.placing.proofs.lowest.Goals as goal
 use Rattle.placing.proofs.lowest.Goals.{After-turn_of-turn}

@@ -1,6 +1,6 @@
 -- `plancount::figure` meets its contract: of 1 to 17 rooms the call reports the figure.
 use borrow.Author.Rules.{rules}
-use Rattle.counting.specs.Reported.{count_is, not_refused}
+use Rattle.counting.proofs.Reported.{count_is, not_refused}
 use Rattle.plancount.proofs.figure.Statement.{statement}
 use Rattle.plancount.proofs.figure.Tie as tie
 

@@ -12,7 +12,7 @@ use Rattle.record.specs.Record.{triple_in}
 use Rattle.record.specs.TripleNumber.{triple_of, group_triple}
 use Rattle.steps.specs.Turn.{Says}
 use Rattle.sizes.specs.Direction.{across, upward}
-use Rattle.sizes.specs.Turned.{TurnFits}
+use Rattle.sizes.proofs.Turned.{TurnFits}
 use Rattle.groups.specs.Group.{Member}
 use Rattle.relating.proofs.Meeting.{Ends, both_bit, ends_next, meeting_first, meeting_fits, meeting_next, meeting_end}
 use Rattle.relating.proofs.relations.Goals as goal

@@ -9,7 +9,7 @@ use Rattle.finite.specs.First.{FirstOrEnd}
 use Rattle.record.specs.Labels.{label_at}
 use Rattle.patterns.specs.Sides.{NextTo, Beyond}
 use Rattle.patterns.specs.Completion.{Place, Started}
-use Rattle.patterns.specs.FromPosition.{first_near, first_far, none_from}
+use Rattle.patterns.proofs.FromPosition.{first_near, first_far, none_from}
 use Rattle.searching.specs.Places.{PlaceNextTo}
 use Rattle.searching.proofs.complete.Goals as goal
 use Rattle.searching.proofs.complete.Goals.{After-first_beyond-turn}

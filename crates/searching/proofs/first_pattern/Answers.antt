@@ -7,11 +7,11 @@ use native.Mathlib.Omega.{arith}
 use lib.ListN.{length}
 use Rattle.finite.specs.Decide.{le_or_lt}
 use Rattle.record.specs.Labels.{label_at, EachOnce}
-use Rattle.record.specs.Demand2.{permutation_once}
+use Rattle.record.proofs.Demand2.{permutation_once}
 use Rattle.labels.specs.Verdicts.{verdict_refused}
 use Rattle.patterns.specs.FirstOne.{first_pattern}
-use Rattle.patterns.specs.M105.{first, m105_answer}
-use Rattle.patterns.specs.Scope.{none_left}
+use Rattle.patterns.proofs.M105.{first, m105_answer}
+use Rattle.patterns.proofs.Scope.{none_left}
 use Rattle.searching.specs.Search.{name_of}
 use Rattle.searching.proofs.Refused.{barred_permutation}
 use Rattle.searching.proofs.first_pattern.Goals as goal

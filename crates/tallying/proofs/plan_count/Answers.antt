@@ -3,10 +3,10 @@ use mathlib.Core.Path.{◌≡◌, sym, ap, ◌∙◌}
 use Prim.Native.Nat.{ℕ, suc, ◌+◌, ◌-◌, ◌≤◌}
 use native.Mathlib.Omega.{arith}
 use Rattle.counting.specs.Ways.{plan_count}
-use Rattle.counting.specs.Begun.{count_none}
-use Rattle.counting.specs.Mirror.{count_mirrored}
+use Rattle.counting.proofs.Begun.{count_none}
+use Rattle.counting.proofs.Mirror.{count_mirrored}
 use Rattle.counting.specs.declared.CountAnswer.TheVariants.{Count}
-use Rattle.counting.specs.Reported.{outside, counted_rooms, inside, count_reported}
+use Rattle.counting.proofs.Reported.{outside, counted_rooms, inside, count_reported}
 use borrow.Author.Rules.{rules}
 use Rattle.tallying.proofs.plan_count.Goals as goal
 use Rattle.tallying.proofs.plan_count.Goals.{Else-not_counted}

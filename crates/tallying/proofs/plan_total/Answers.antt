@@ -4,7 +4,7 @@ use mathlib.Core.Path.{ap, ◌∙◌}
 use native.Mathlib.Omega.{arith}
 use Rattle.counting.specs.Ways.{plan_total}
 use Rattle.counting.specs.declared.CountAnswer.TheVariants.{Count}
-use Rattle.counting.specs.Reported.{outside, counted_rooms, inside, total_reported}
+use Rattle.counting.proofs.Reported.{outside, counted_rooms, inside, total_reported}
 use borrow.Author.Rules.{rules}
 use Rattle.tallying.proofs.plan_total.Goals as goal
 use Rattle.tallying.proofs.plan_total.Goals.{Else-not_counted}

@@ -3,7 +3,7 @@
 use mathlib.Core.Path.{sym, ◌∙◌}
 use native.Mathlib.Omega.{arith}
 use Rattle.record.specs.Judged.{Sound}
-use Rattle.record.specs.Demand2.{sound→baxter}
+use Rattle.record.proofs.Demand2.{sound→baxter}
 use Rattle.labeltext.specs.TidySize.{sound_tidy_size}
 use Rattle.labels.specs.Verdicts.{verdict_refused, verdict_sound}
 use Rattle.tidy.proofs.Labels.{refused_tidied, short_tidied, wrote_tidied}

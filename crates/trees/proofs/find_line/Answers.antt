@@ -2,7 +2,7 @@
 use mathlib.Core.Path.{ap, ◌∙◌}
 use Prim.Native.Nat.{ℕ, ◌+◌, max, min}
 use native.Mathlib.Omega.{arith}
-use Rattle.slicing.specs.LineSearch.{search_goes_on, line_from_left, line_from_right, no_line}
+use Rattle.slicing.proofs.LineSearch.{search_goes_on, line_from_left, line_from_right, no_line}
 use Rattle.trees.proofs.find_line.Goals as goal
 
 pub returns-then-i-end : goal.returns-then-i-end

@@ -1,6 +1,6 @@
 use Prim.Native.Nat.{◌-◌}
 use Rattle.record.specs.Labels.{label_at}
-use Rattle.slicing.specs.LineSearch.{Searching}
+use Rattle.slicing.proofs.LineSearch.{Searching}
 use Rattle.trees.proofs.find_line.Given as goal
 
 abbrev pub invariant-loop-end : goal.invariant-loop-end

@@ -1,0 +1,2 @@
+pub mod Computed
+pub mod M112

@@ -1,0 +1,9 @@
+pub mod Begun
+pub mod Figures
+pub mod M112
+pub mod Mirror
+pub mod Positions
+pub mod Reported
+pub mod Sequences
+pub mod AllWays
+pub mod Sizes

@@ -1,0 +1,13 @@
+pub mod HasTree
+pub mod LineSearch
+pub mod Lines
+pub mod M103
+pub mod OnlyTree
+pub mod Order
+pub mod SameTree
+pub mod Size
+pub mod TreeOfRooms
+pub mod TreeSlicing
+pub mod Blocks
+pub mod Split
+pub mod Interval
