@@ -1,5 +1,5 @@
 -- How large a figure can be: for up to 17 rooms it fits 64 bits with a sign.
-use Rattle.std.specs.Prelude.{List, ℕ, zero, suc, ◌^◌, ◌≤◌, ◌<◌}
+use Rattle.std.specs.Prelude.{List, ℕ, zero, suc, ◌^◌, ◌≤◌}
 use Rattle.std.proofs.Math.Logic.{ite}
 use Rattle.std.proofs.Common.{sym, subst, arith}
 use Rattle.finite.specs.HowMany.{HowMany, one_number}

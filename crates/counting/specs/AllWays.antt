@@ -1,13 +1,8 @@
 -- The totals by the same recursion, without the number of rises.
-use Rattle.std.specs.Prelude.{Bool, true, false, ◌≡◌}
-use Rattle.std.proofs.Math.Path.{refl}
-use Rattle.std.proofs.Common.{◌∙◌, arith}
-use Prim.Native.Nat.{ℕ, zero, suc, ◌+◌, ◌<◌}
-use Rattle.finite.specs.Sum.{sum}
-use Rattle.finite.specs.SumBelow.{sum_none, sum_next, sum_add}
+use Prim.Native.Nat.{ℕ, zero, suc}
 use Rattle.record.specs.Triple.{triple}
-use Rattle.record.specs.Walk.{Counts, missing, counts, step}
-use Rattle.counting.specs.Ways.{over_bit, after_step, after_third, ways, plan_count, plan_total}
+use Rattle.record.specs.Walk.{step}
+use Rattle.counting.specs.Ways.{over_bit, after_step}
 
 -- the number of sequences of k triples that lead from p and q to 0 and 0
 unfoldable pub all_ways : (k p q : ℕ) → ℕ

@@ -1,12 +1,11 @@
 -- Sides: two rooms exchanged stand on opposite sides of each other; and whether two sides are the same is decided, by their numbers.
-use Rattle.std.specs.Prelude.{◌≢◌, ◌≡◌, refl, ℕ, zero, suc, ◌<◌}
-use Rattle.std.proofs.Math.Logic.{ite}
-use Rattle.std.proofs.Common.{sym, ap, ◌∙◌, arith}
-use Rattle.std.proofs.Math.Decide.{dec_lt, ℕ_discrete}
+use Rattle.std.specs.Prelude.{◌≡◌, refl, ℕ, zero, suc}
+use Rattle.std.proofs.Common.{sym, ap, ◌∙◌}
+use Rattle.std.proofs.Math.Decide.{ℕ_discrete}
 use Rattle.finite.specs.Decide.{dec_iff}
 use Rattle.drawing.specs.declared.Side.{Side}
 use Rattle.drawing.specs.declared.Side.TheVariants.{Left, Right, Above, Below}
-use Rattle.drawing.specs.Side.{side_of, converse}
+use Rattle.drawing.specs.Side.{converse}
 
 pub converse_back : (side : Side) → converse (converse side) ≡ side
 converse_back Left = refl

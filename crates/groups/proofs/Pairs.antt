@@ -13,7 +13,7 @@ use Rattle.drawing.specs.declared.Side.{Side}
 use Rattle.drawing.specs.declared.Side.TheVariants.{Left, Right, Above, Below}
 use Rattle.sizes.specs.Direction.{Direction, across, upward, Before}
 use Rattle.sizes.specs.SideFacts.{left_iff_other_right, below_iff_other_above}
-use Rattle.groups.specs.Group.{Member, EachIn, SomeIn, Fits}
+use Rattle.groups.specs.Group.{Member, Fits}
 use Rattle.groups.specs.Standing.{AllStand}
 use Rattle.groups.proofs.StandingFacts.{member_inside, apart, Says}
 use Rattle.groups.specs.declared.GroupsAnswer.TheVariants.{Mixed}

@@ -5,13 +5,12 @@ use Rattle.std.specs.Prelude.{Bool, true, false, not, ◌≡◌, refl, ℕ, ◌+
 use Rattle.std.proofs.Common.{inl, inr, sym, subst, ◌∙◌, arith}
 use Rattle.finite.specs.Decide.{le_or_lt}
 use Rattle.finite.specs.First.{FirstOrEnd, not_after}
-use Rattle.record.specs.Labels.{EachOnce}
 use Rattle.patterns.specs.Pattern.{Four, Ordered, PatternAt, Before}
 use Rattle.patterns.specs.Sides.{condition_of, NextTo, Beyond, BySides}
 use Rattle.patterns.proofs.Sides.{by_sides, sides_pattern}
 use Rattle.patterns.specs.Scope.{FirstIn, NoneIn, StartsBy}
 use Rattle.patterns.specs.declared.Condition.{Condition}
-use Rattle.patterns.specs.Completion.{Place, Started}
+use Rattle.patterns.specs.Completion.{Started}
 
 only_next : (above : Bool) (label next other : ℕ) → NextTo above label next → NextTo above label other → other ≡ next
 only_next true label next other e d = omega arith

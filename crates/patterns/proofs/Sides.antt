@@ -1,12 +1,12 @@
 -- A pattern by the sides on which its labels lie. In the first condition the last label is next above the first one, in the second next
 -- below it. The label at j lies on that side of the first label, too, and the label at k on the other side.
-use Rattle.std.specs.Prelude.{Bool, true, false, not, ◌≢◌, ◌⊎◌, ◌≡◌, refl, ℕ, ◌+◌, ltb}
+use Rattle.std.specs.Prelude.{Bool, true, false, not, ◌≢◌, ◌⊎◌, ◌≡◌, refl, ℕ}
 use Rattle.std.proofs.Common.{inl, inr, arith, ltb-true, ltb-false, lt-ltb, le-ltb}
 use Rattle.record.specs.Labels.{EachOnce}
-use Rattle.patterns.specs.Pattern.{Four, Ordered, PatternAt}
+use Rattle.patterns.specs.Pattern.{Four, PatternAt}
 use Rattle.patterns.specs.declared.Condition.{Condition}
 use Rattle.patterns.specs.declared.Condition.TheVariants as condition
-use Rattle.patterns.specs.Sides.{Beyond, BySides, NextTo, condition_of}
+use Rattle.patterns.specs.Sides.{Beyond, BySides, condition_of}
 
 pub one_of_two : (above : Bool) (which : Condition) → (which ≡ condition_of above) ⊎ (which ≡ condition_of (not above))
 one_of_two true condition.First = inl refl

@@ -1,15 +1,9 @@
 -- How a position i is completed to a pattern of one condition. The last position is told by its label, which is next to i's. Between the
 -- two the first position on that side of i's label and after it the first on the other side are the first in order: an earlier j leaves
 -- no less choice for k.
-use Rattle.std.specs.Prelude.{Bool, true, false, not, ◌≡◌, refl, ℕ, ◌+◌, ◌≤◌, ◌<◌}
-use Rattle.std.proofs.Common.{inl, inr, sym, subst, ◌∙◌, arith}
-use Rattle.finite.specs.Decide.{le_or_lt}
-use Rattle.finite.specs.First.{FirstOrEnd, not_after}
+use Rattle.std.specs.Prelude.{Bool, ◌≡◌, ℕ, ◌≤◌, ◌<◌}
 use Rattle.record.specs.Labels.{EachOnce}
-use Rattle.patterns.specs.Pattern.{Four, Ordered, PatternAt, Before}
-use Rattle.patterns.specs.Sides.{condition_of, NextTo, Beyond, BySides}
-use Rattle.patterns.specs.Scope.{FirstIn, NoneIn, StartsBy}
-use Rattle.patterns.specs.declared.Condition.{Condition}
+use Rattle.patterns.specs.Sides.{NextTo}
 
 -- p is the last of the first k positions that has the label; or it is 0, and none has it
 pub record Place (f : ℕ → ℕ) (k label p : ℕ) : Type 0 where

@@ -1,10 +1,8 @@
 -- The first pattern in a part of the fours: in those of one condition that start at a position, in all that start there. How the first in
 -- a part is the first in a larger one.
-use Rattle.std.specs.Prelude.{Bool, not, ◌≢◌, ◌⊎◌, ◌≡◌, ℕ, ◌+◌, ◌≤◌, ◌<◌}
-use Rattle.std.proofs.Common.{inl, inr, subst, subst₂, ◌∙◌, arith}
-use Rattle.finite.specs.Decide.{eq_or_ne}
-use Rattle.patterns.specs.Pattern.{Four, PatternAt, Before, FirstPattern}
-use Rattle.patterns.specs.Sides.{condition_of, Beyond, BySides}
+use Rattle.std.specs.Prelude.{Bool, ◌≡◌, ℕ, ◌<◌}
+use Rattle.patterns.specs.Pattern.{Four, PatternAt, Before}
+use Rattle.patterns.specs.Sides.{condition_of}
 use Rattle.patterns.specs.declared.Condition.{Condition}
 
 -- the first pattern in a part

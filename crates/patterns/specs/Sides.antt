@@ -1,9 +1,7 @@
 -- A pattern by the sides on which its labels lie. In the first condition the last label is next above the first one, in the second next
 -- below it. The label at j lies on that side of the first label, too, and the label at k on the other side.
-use Rattle.std.specs.Prelude.{Bool, true, false, not, ◌≢◌, ◌⊎◌, ◌≡◌, refl, ℕ, ◌+◌, ltb}
-use Rattle.std.proofs.Common.{inl, inr, arith, ltb-true, ltb-false, lt-ltb, le-ltb}
-use Rattle.record.specs.Labels.{EachOnce}
-use Rattle.patterns.specs.Pattern.{Four, Ordered, PatternAt}
+use Rattle.std.specs.Prelude.{Bool, true, false, not, ◌≡◌, ℕ, ◌+◌, ltb}
+use Rattle.patterns.specs.Pattern.{Four, Ordered}
 use Rattle.patterns.specs.declared.Condition.{Condition}
 use Rattle.patterns.specs.declared.Condition.TheVariants as condition
 

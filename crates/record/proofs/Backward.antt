@@ -14,7 +14,7 @@ use Rattle.record.specs.Labels.{label_at, EachOnce}
 use Rattle.record.specs.Barred.{Barred}
 use Rattle.record.specs.Triple.{Triple, triple, triple_at}
 use Rattle.record.specs.Walk.{Counts, missing, counts, step, and_then, walk, Accepted}
-use Rattle.record.specs.Way.{Way, up, down, other, Past, same, both}
+use Rattle.record.specs.Way.{Way, up, down, other, Past, both}
 use Rattle.record.specs.Sides.{Run, rest_of, Front, Joined, apart, joined}
 use Rattle.record.specs.Runs.{Runs, runs_same, inside_past, facing, ahead, Step, nothing_past, fronts, step_fresh, step_tells, reach_chained, one_way}
 use Rattle.record.specs.Decode.{bits_of, turn_of, Sizes, sizes_ahead, joined_size, grow_sizes, sizes_after, lower_size, take_out, runs_but, label_of, decode}

@@ -4,7 +4,7 @@ use Rattle.std.specs.Prelude.{◌≡◌, ◌≢◌, List, ℕ, suc, ◌+◌, ◌
 use Rattle.std.proofs.Math.Path.{refl}
 use Rattle.std.proofs.Common.{sym, ap, ◌∙◌, inl, inr, arith}
 use Rattle.std.proofs.Math.Decide.{ℕ_discrete}
-use Rattle.finite.specs.Search.{Some, dec_some}
+use Rattle.finite.specs.Search.{dec_some}
 use Rattle.finite.specs.Count.{Strict, rank, rank_lt, rank_below, rank_injective, rank_onto}
 use Rattle.finite.specs.Table.{length_table, get_d_table}
 use Rattle.record.specs.Labels.{label_at}

@@ -35,4 +35,5 @@ pub mod Ranks
 -- equivalence
 -- the grid drawing
 pub mod GridRelations
+
 -- Worked plans

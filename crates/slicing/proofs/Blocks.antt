@@ -6,7 +6,7 @@ use Rattle.slicing.specs.Cuts.{Before, Parts}
 use Rattle.slicing.specs.Tree.{Tree, leaf, node, Trees, none, ◌then◌, count, Alternates, TreeOf, Blocks}
 use Rattle.slicing.proofs.Order.{before_one_way}
 use Rattle.slicing.specs.declared.Cut.{Cut}
-use Rattle.slicing.specs.Blocks.{FirstBlock, Whole}
+use Rattle.slicing.specs.Blocks.{FirstBlock}
 
 module _ (f : ℕ → ℕ) where
   -- each block has a room

@@ -1,11 +1,10 @@
 -- Rooms whose labels are an interval: each has a place among their positions, by its label in the order of a cut, and where a line parts
 -- them those before it and those after it have intervals of labels again.
 use Rattle.std.proofs.Common.{inl, inr, arith}
-use Rattle.std.specs.Prelude.{◌≡◌, ℕ, suc, ◌+◌, ◌-◌, ◌≤◌, ◌<◌}
+use Rattle.std.specs.Prelude.{◌≡◌, ℕ, ◌+◌, ◌≤◌, ◌<◌}
 use Rattle.finite.specs.Decide.{le_or_lt}
 use Rattle.finite.specs.Search.{Each}
 use Rattle.slicing.specs.Cuts.{Before, Parts}
-use Rattle.slicing.specs.Split.{Distinct}
 use Rattle.slicing.specs.Places.{Places, first_places→later, last_places→earlier, lower→first_places}
 use Rattle.slicing.specs.declared.Cut.{Cut}
 use Rattle.slicing.specs.declared.Cut.TheVariants.{Vertical, Horizontal}

@@ -1,6 +1,6 @@
 -- Two or more rooms without the shapes 2413 and 3142 are parted by a line. One room more keeps a line of the rooms before it, or finds a
 -- new one.
-use Rattle.std.specs.Prelude.{◌≢◌, ◌⊎◌, ◌≡◌, ℕ, zero, suc, ◌≤◌, ◌<◌}
+use Rattle.std.specs.Prelude.{◌⊎◌, ◌≡◌, ℕ, zero, suc, ◌≤◌, ◌<◌}
 use Rattle.std.proofs.Common.{inl, inr, sym, subst, subst₂, arith}
 use Rattle.std.proofs.Math.Logic.{⊎_swap}
 use Rattle.finite.specs.Decide.{le_or_lt, eq_or_ne}

@@ -1,9 +1,6 @@
 -- The blocks of a node: how many there are, and where the first one ends.
-use Rattle.std.proofs.Common.{inl, inr, subst, arith}
-use Rattle.std.specs.Prelude.{◌≡◌, ℕ, ◌+◌, ◌-◌, ◌≤◌, ◌<◌}
-use Rattle.finite.specs.Decide.{le_or_lt}
-use Rattle.slicing.specs.Cuts.{Before, Parts}
-use Rattle.slicing.specs.Tree.{Tree, leaf, node, Trees, none, ◌then◌, count, Alternates, TreeOf, Blocks}
+use Rattle.std.specs.Prelude.{ℕ, ◌≤◌, ◌<◌}
+use Rattle.slicing.specs.Cuts.{Parts}
 use Rattle.slicing.specs.declared.Cut.{Cut}
 
 -- no line of a cut parts the rooms at positions s to e - 1

@@ -7,7 +7,7 @@ use Rattle.record.specs.declared.Refusal.{Refusal}
 use Rattle.traces.specs.Move.{Move}
 use Rattle.traces.specs.Replay.{Outcome, refused, next, after, Replay, ended, stopped, follow, replay_from, replay, states_from}
 use Rattle.traces.specs.Cause.{Refuses, Makes, Caused, caused, refuses_after, makes_after}
-use Rattle.traces.specs.Row.{Leads, NoneRefused, Stops, here, later, more, none}
+use Rattle.traces.specs.Row.{Leads, Stops, here, later, more, none}
 
 -- ---- one turn of the replay
 module _ (move : Move) (moves : List Move) (present : List Triple) (done : ℕ) where

@@ -1,5 +1,5 @@
 -- How large the numbers of an answer can be: a count of moves and an ordinal have 16 bits, rooms and runs have 8.
-use Rattle.std.specs.Prelude.{List, ℕ, ◌≤◌, length}
+use Rattle.std.specs.Prelude.{List, ℕ, length}
 use Rattle.std.proofs.Common.{sym, subst, arith}
 use Rattle.traces.specs.Answer.{trace_answer, Traced}
 use Rattle.traces.proofs.Row.{stops_within}
@@ -8,7 +8,6 @@ use Rattle.traces.proofs.Still.{built_few, built_runs, leads_built, stops_built}
 use Rattle.traces.specs.Bytes.{moves_few}
 use Rattle.traces.proofs.Demand1.{TraceSays, too_long, refused_move, short, replayed, demand1_trace_cause}
 use Rattle.traces.specs.declared.TraceAnswer.{TraceAnswer}
-use Rattle.traces.specs.declared.TraceAnswer.TheVariants.{Replayed, RefusedMove, Refused}
 use Rattle.traces.specs.Sizes.{TraceFits}
 
 pub m111_answer_fits : (bytes : List ℕ) (capacity : ℕ) → TraceFits (trace_answer bytes capacity)

@@ -8,7 +8,7 @@ use Rattle.record.specs.declared.Refusal.{Refusal}
 use Rattle.traces.specs.Move.{Move, add, take_away, claim, unknown}
 use Rattle.traces.specs.State.{rooms_of, counts_of, runs_in, runs_of}
 use Rattle.traces.specs.Newest.{runs_few}
-use Rattle.traces.specs.Cause.{Past255, Makes, added, taken, claimed}
+use Rattle.traces.specs.Cause.{Makes, added, taken, claimed}
 use Rattle.traces.specs.Row.{Leads, none, more, Stops, here, later}
 use Rattle.traces.specs.Still.{Built, grown, start}
 

@@ -1,12 +1,9 @@
 -- A row of moves: it leads from one state to another, or its first refused move stops it. What the replay gives is exactly this.
-use Rattle.std.specs.Prelude.{List, [], ◌∷◌, ◌↔◌, ◌≡◌, ℕ, suc, ◌+◌, ◌≤◌, length, take}
-use Rattle.std.proofs.Math.Path.{refl, ap}
-use Rattle.std.proofs.Common.{sym, subst, ◌∙◌, arith}
+use Rattle.std.specs.Prelude.{List, [], ◌∷◌, ℕ, suc}
 use Rattle.record.specs.Triple.{Triple}
 use Rattle.record.specs.declared.Refusal.{Refusal}
 use Rattle.traces.specs.Move.{Move}
-use Rattle.traces.specs.Replay.{Outcome, refused, next, after, Replay, ended, stopped, follow, replay_from, replay, states_from}
-use Rattle.traces.specs.Cause.{Refuses, Makes, Caused, caused, refuses_after, makes_after}
+use Rattle.traces.specs.Cause.{Refuses, Makes}
 
 -- no move of the row is refused, and they lead from one state to another
 pub data Leads : List Triple → List Move → List Triple → Type 0 where

@@ -1,9 +1,5 @@
 -- How large the numbers of an answer can be: a count of moves and an ordinal have 16 bits, rooms and runs have 8.
-use Rattle.std.specs.Prelude.{List, ℕ, ◌≤◌, length}
-use Rattle.std.proofs.Common.{sym, subst, arith}
-use Rattle.traces.specs.Answer.{trace_answer, Traced}
-use Rattle.traces.specs.Still.{start}
-use Rattle.traces.specs.Bytes.{moves_few}
+use Rattle.std.specs.Prelude.{◌≤◌}
 use Rattle.traces.specs.declared.TraceAnswer.{TraceAnswer}
 use Rattle.traces.specs.declared.TraceAnswer.TheVariants.{Replayed, RefusedMove, Refused}
 

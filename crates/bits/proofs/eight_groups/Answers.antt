@@ -4,8 +4,7 @@ use Prim.Native.Nat.{◌+◌, ◌-◌, ◌*◌}
 use native.Mathlib.Omega.{arith}
 use lib.ListN.{length}
 use Rattle.bits.specs.Eight.{EightGroups}
-use Rattle.bits.proofs.Eight.{word, eight_groups, product_small, last_bytes}
-use borrow.Author.Rules.{rules}
+use Rattle.bits.proofs.Eight.{word, eight_groups, last_bytes}
 use Rattle.bits.proofs.eight_groups.Goals as goal
 
 pub returns-then-left-lt3 : goal.returns-then-left-lt3

@@ -3,9 +3,7 @@
 use mathlib.Core.Path.{sym, ◌∙◌}
 use Prim.Native.Nat.{◌-◌, ◌*◌, ◌/◌, ◌%◌, ◌^◌}
 use lib.Bits.{and_mask, mask_lt}
-use Rattle.bits.proofs.Word.{masked_fits}
 use Rattle.bits.proofs.WordGroup.{group_shown}
-use borrow.Author.Rules.{rules}
 use Rattle.bits.proofs.group.Goals as goal
 
 pub returns : goal.returns

@@ -1,9 +1,7 @@
 -- `load` meets its contract. What `wide` ensures of the bytes that were read makes the word's quotient and remainder by 256 those bytes,
 -- and the list then shows the word, by one law for one byte and one for two.
-use native.Mathlib.Omega.{arith}
 use mathlib.Core.Path.{sym}
 use Rattle.bits.proofs.Word.{shows_one, shows_two}
-use borrow.Author.Rules.{rules}
 use Rattle.bits.proofs.load.Goals as goal
 
 pub returns-then-lowest-lt8 : goal.returns-then-lowest-lt8

@@ -2,7 +2,6 @@
 -- the law of a number put into a word by a mask and a shift says how the two differ.
 use native.Mathlib.Omega.{arith}
 use Rattle.bits.proofs.WordGroup.{group_of_eight_set}
-use borrow.Author.Rules.{rules}
 use Rattle.bits.proofs.set_group.Goals as goal
 
 pub returns : goal.returns

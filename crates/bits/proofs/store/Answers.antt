@@ -1,9 +1,7 @@
 -- `store` meets its contract. The two bytes written are the word's quotient and remainder by 256, a mask with 255 being the remainder;
 -- one law says what a store of one byte leaves, and one what a store of two leaves.
 use native.Mathlib.Omega.{arith}
-use lib.ListN.{length-set}
-use Rattle.bits.proofs.Word.{masked_fits, stored_one, stored_two}
-use borrow.Author.Rules.{rules}
+use Rattle.bits.proofs.Word.{stored_one, stored_two}
 use Rattle.bits.proofs.store.Goals as goal
 
 pub returns-then-lowest-lt8 : goal.returns-then-lowest-lt8
