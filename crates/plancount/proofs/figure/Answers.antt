@@ -1,7 +1,6 @@
 -- `plancount::figure` meets its contract: of 1 to 17 rooms the call reports the figure.
 use Rattle.std.specs.Prelude.{refl}
-use Rattle.counting.proofs.Reported.{count_is, not_refused}
-use borrow.Author.Rules.{rules}
+use Rattle.counting.proofs.Reported.{count_is}
 use Rattle.plancount.proofs.figure.Goals as goal
 
 pub returns-in-Count : goal.returns-in-Count

@@ -6,7 +6,6 @@ use Rattle.digits.specs.Decimal.{newline, field}
 use Rattle.finite.specs.Put.{put_more, put_as}
 use Rattle.counting.specs.Ways.{plan_count}
 use Rattle.plancount.proofs.Lines.{line_form}
-use borrow.Author.Rules.{rules}
 use Rattle.plancount.proofs.put_line.Goals as goal
 
 pub returns : goal.returns

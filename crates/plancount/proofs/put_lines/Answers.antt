@@ -1,12 +1,6 @@
 -- `plancount::put_lines` meets its contract: between two turns the lines of fewer rises are put.
-use mathlib.Core.Path.{◌≡◌, ap}
-use Prim.Native.Nat.{◌+◌, ◌*◌, ◌-◌, ◌≤◌}
 use native.Mathlib.Omega.{arith}
-use Rattle.finite.specs.Put.{Put, put_as}
-use Rattle.counting.specs.Ways.{plan_count}
-use Rattle.plancount.specs.Text.{lines_of}
 use Rattle.plancount.proofs.Lines.{no_lines, one_line_more}
-use borrow.Author.Rules.{rules}
 use Rattle.plancount.proofs.put_lines.Goals as goal
 
 pub loop-rises-init : goal.loop-rises-init

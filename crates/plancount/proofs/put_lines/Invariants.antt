@@ -1,10 +1,7 @@
-use mathlib.Core.Path.{◌≡◌, ap}
 use Prim.Native.Nat.{◌+◌, ◌*◌, ◌-◌, ◌≤◌}
-use native.Mathlib.Omega.{arith}
-use Rattle.finite.specs.Put.{Put, put_as}
+use Rattle.finite.specs.Put.{Put}
 use Rattle.counting.specs.Ways.{plan_count}
 use Rattle.plancount.specs.Text.{lines_of}
-use Rattle.plancount.proofs.Lines.{no_lines, one_line_more}
 use Rattle.plancount.proofs.put_lines.Given as goal
 
 abbrev pub invariant-loop-rises : goal.invariant-loop-rises

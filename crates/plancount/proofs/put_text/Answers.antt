@@ -1,13 +1,10 @@
 -- `plancount::put_text` meets its contract: between two turns the lines for 1 to n rooms are put.
 use mathlib.Core.Path.{◌≡◌, ap}
-use Prim.Native.Nat.{◌*◌, ◌-◌, ◌≤◌}
 use native.Mathlib.Omega.{arith}
-use Rattle.finite.specs.Put.{Put}
 use Rattle.text.specs.Puts.{put_whole}
 use Rattle.counting.specs.Ways.{plan_count}
 use Rattle.plancount.specs.Text.{up_to}
 use Rattle.plancount.proofs.Lines.{no_rooms, one_room_more, printed}
-use borrow.Author.Rules.{rules}
 use Rattle.plancount.proofs.put_text.Goals as goal
 
 pub loop-n-init : goal.loop-n-init

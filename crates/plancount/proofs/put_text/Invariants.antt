@@ -1,11 +1,7 @@
-use mathlib.Core.Path.{◌≡◌, ap}
 use Prim.Native.Nat.{◌*◌, ◌-◌, ◌≤◌}
-use native.Mathlib.Omega.{arith}
 use Rattle.finite.specs.Put.{Put}
-use Rattle.text.specs.Puts.{put_whole}
 use Rattle.counting.specs.Ways.{plan_count}
 use Rattle.plancount.specs.Text.{up_to}
-use Rattle.plancount.proofs.Lines.{no_rooms, one_room_more, printed}
 use Rattle.plancount.proofs.put_text.Given as goal
 
 abbrev pub invariant-loop-n : goal.invariant-loop-n

@@ -12,7 +12,6 @@ use Rattle.text.specs.Puts.{put_whole}
 use Rattle.text.specs.Viewed.{Written, refused_printed, read_printed, read_some}
 use Rattle.shapes.specs.Picture.{picture}
 use Rattle.picture.specs.Drawn.{within_read, picture_local}
-use borrow.Author.Rules.{rules}
 use Rattle.plandraw.proofs.put_picture.Goals as goal
 
 -- what Record in answered and wrote
@@ -29,17 +28,10 @@ wrote told byte = record {
 
 pub put_plan-requires : goal.put_plan-requires
 put_plan-requires c =
-    let w = wrote c.in-Read.ensures (omega (arith, c.type_inv.«record» 0)) in
-    let few = w.few in (
-      record {
-        places = record {
-          few = few;
-          labels_length = omega arith;
-        };
-        within = within_read w;
-      },
-      (read_some w, search rules),
-    )
+    let w = wrote c.in-Read.ensures (omega (arith, c.type_inv.«record» 0)) in record {
+      fact_1 = record { places = record { few = w.few; labels_length = omega arith }; within = within_read w };
+      fact_2 = (read_some w, omega arith);
+    }
 
 pub returns-in-Refused : goal.returns-in-Refused
 returns-in-Refused c =

@@ -11,7 +11,6 @@ use Rattle.text.specs.Puts.{put_whole}
 use Rattle.text.specs.Viewed.{Written, refused_printed, read_printed}
 use Rattle.listing.specs.Text.{listing}
 use Rattle.listing.specs.Lines.{listing_local}
-use borrow.Author.Rules.{rules}
 use Rattle.planlist.proofs.put_text.Goals as goal
 
 -- what Record in answered and wrote
