@@ -20,7 +20,7 @@ use Rattle.rooms.proofs.SameLabels.{equivalent→keeps_one_segment, equivalent�
 unfoldable pub use Rattle.rooms.proofs.NamesAlone.{m106_names_alone_equivalent}
 use Rattle.rooms.proofs.Demand3.{demand3_same_record_iff_equivalent}
 
--- ---- two lists that differ in names alone are equivalent, by NamesAlone
+-- ---- two lists that differ in names alone; NamesAlone shows them equivalent
 module _ (rooms others : List Room) (same : SameButNames rooms others) where
   -- the same squares are covered
   pub m106_covers : (i x y : ℕ) → i < length rooms → Covers (room_in rooms i) x y ↔ Covers (room_in others i) x y

@@ -8,7 +8,7 @@ use Rattle.rooms.specs.Segment.{Holds}
 use Rattle.rooms.specs.Equivalent.{Pairing, Equivalent}
 use Rattle.rooms.specs.SameButNames.{SameButNames, same_but_names_sym, same_edge, same_segment}
 
--- each room pairs off with the one at its place, and each segment with itself
+-- they are equivalent: each room pairs off with the one at its place, and each segment with itself
 unfoldable pub m106_names_alone_equivalent : (rooms others : List Room) → SameButNames rooms others → Equivalent rooms others
 m106_names_alone_equivalent rooms others same = record {
   pair_rooms = each_itself (λ i. subst (λ (n : ℕ). i < n) same.count) (λ i. subst (λ (n : ℕ). i < n) (sym same.count));
