@@ -19,7 +19,8 @@ use Rattle.rooms.specs.Plan.{Floorplan}
 use Rattle.rooms.specs.PlanOf.{plan_of}
 use Rattle.rooms.proofs.Steps.{one_segment_turned, right_of→left_of, above_of→below_of}
 use Rattle.rooms.proofs.RelationFacts.{directly_left_iff_none_between, directly_below_iff_none_between}
-use Rattle.rooms.proofs.SameLabels.{equivalent_sym, equivalent→keeps_one_segment}
+use Rattle.rooms.proofs.Equivalence.{equivalent_sym}
+use Rattle.rooms.proofs.SameLabels.{equivalent→keeps_one_segment}
 use Rattle.contacts.specs.Touches.{SupportsBoth, Touches}
 use Rattle.contacts.specs.Direct.{ChainOfMore, OnlyThrough, PositionsDirect, dec_positions_direct, relation_of}
 use Rattle.contacts.proofs.M101.{m101_touch_symmetric}

@@ -8,7 +8,7 @@ use Rattle.rooms.specs.Segment.{Stretch, Segment}
 use Rattle.rooms.specs.Equivalent.{Equivalent}
 use Rattle.rooms.specs.Plan.{Floorplan}
 use Rattle.rooms.specs.PlanOf.{plan_of, accepted→floorplan}
-use Rattle.rooms.proofs.SameLabels.{equivalent_sym}
+use Rattle.rooms.proofs.Equivalence.{equivalent_sym}
 use Rattle.contacts.specs.Inner.{OutlineSide, InnerSegment}
 use Rattle.contacts.specs.Touches.{opposite, Touches}
 use Rattle.contacts.proofs.InnerFacts.{near_side, far_side, BothSides, outline_side_or_both_sides, both_sides→inside, inside→not_outline_side}

@@ -4,8 +4,7 @@ pub mod Touches
 pub mod DecideTouches
 pub mod Direct
 pub mod GridLine
--- Theorems
--- What they rest on
+-- What the theorems rest on
 pub mod ByPosition
 pub mod GridEdges
 pub mod GridOutline

@@ -1,4 +1,4 @@
--- Sides: two rooms exchanged stand on opposite sides of each other; and whether two sides are the same is decided, by their numbers.
+-- Sides: two rooms exchanged stand on opposite sides of each other.
 use Rattle.std.specs.Prelude.{◌≢◌, ◌≡◌, refl, ℕ, ◌<◌}
 use Rattle.std.proofs.Math.Logic.{ite}
 use Rattle.std.proofs.Common.{ap, ◌∙◌, arith}

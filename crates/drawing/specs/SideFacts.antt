@@ -1,4 +1,4 @@
--- Sides: two rooms exchanged stand on opposite sides of each other; and whether two sides are the same is decided, by their numbers.
+-- Sides: the converse of the converse, and whether two sides are the same, which is decided by their numbers.
 use Rattle.std.specs.Prelude.{◌≡◌, refl, ℕ, zero, suc}
 use Rattle.std.proofs.Common.{sym, ap, ◌∙◌}
 use Rattle.std.proofs.Math.Decide.{ℕ_discrete}

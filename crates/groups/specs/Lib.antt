@@ -2,8 +2,7 @@
 pub mod Group
 pub mod Standing
 pub mod Answer
--- Theorems
--- What they and the code rest on
+-- What the theorems and the code rest on
 pub mod Pairs
 pub mod Extremes
 -- Worked examples

@@ -1,6 +1,4 @@
--- The rooms of two groups, pair by pair, where nothing is refused: a room of the first stands left of one of the second, or below it, if it
--- stands before that across or upward, and else the other way round. So where all positions of the first come before those of the second,
--- it is enough to know whether some room stands before another one across, and whether one does upward.
+-- The rooms of two groups, pair by pair: whether some room of the first stands before one of the second, across or upward.
 use Rattle.std.specs.Prelude.{List, ℕ, ◌<◌}
 use Rattle.drawing.specs.declared.Side.{Side}
 use Rattle.drawing.specs.declared.Side.TheVariants.{Left, Below}

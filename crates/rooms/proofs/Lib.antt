@@ -16,3 +16,7 @@ pub mod Stands
 pub mod Steps
 pub mod Worked
 pub mod Ranks
+pub mod Lengthened
+pub mod OnOutline
+pub mod Equivalence
+pub mod NamesAlone

@@ -1,6 +1,6 @@
 -- M-106, names on rooms: "The record holds no names, equivalence ignores them". Covers, segments, orders, equivalence, labels, positions
 -- and the record are the same for two lists that differ in names alone; and an accepted list's nonzero names are different.
-use Rattle.std.specs.Prelude.{◌≡◌, refl, ◌≢◌, ◌↔◌, ℕ, ◌<◌, length}
+use Rattle.std.specs.Prelude.{◌≡◌, ◌≢◌, ◌↔◌, ℕ, ◌<◌, length}
 use Rattle.std.proofs.Math.Path.{sym}
 use Rattle.std.proofs.Common.{subst, zero-le, arith}
 use mathlib.Core.List.{List}
@@ -8,38 +8,19 @@ use Rattle.drawing.specs.declared.Room.{Room}
 use Rattle.drawing.specs.declared.Side as relation
 use Rattle.rooms.specs.Outline.{Covers, room_in}
 use Rattle.rooms.specs.Causes.{AcceptedRooms}
-use Rattle.rooms.specs.Segment.{Stretch, Segment, Holds}
+use Rattle.rooms.specs.Segment.{Stretch, Segment}
 use Rattle.rooms.specs.Direct.{Stands}
 use Rattle.rooms.specs.LabelList.{label_of, position_of, record_of_rooms}
-use Rattle.rooms.specs.Equivalent.{Pairing, Equivalent}
+use Rattle.rooms.specs.Equivalent.{Equivalent}
 use Rattle.rooms.specs.Chain.{chain_map}
 use Rattle.rooms.specs.PlanOf.{accepted→floorplan}
-use Rattle.rooms.specs.SameButNames.{SameButNames, same_but_names_sym, same_edge, same_segment}
-use Rattle.rooms.proofs.SameLabels.{equivalent_trans, equivalent→keeps_one_segment, equivalent→same_position, equivalent→same_label}
+use Rattle.rooms.specs.SameButNames.{SameButNames, same_but_names_sym, same_segment}
+use Rattle.rooms.proofs.Equivalence.{equivalent_trans}
+use Rattle.rooms.proofs.SameLabels.{equivalent→keeps_one_segment, equivalent→same_position, equivalent→same_label}
+unfoldable pub use Rattle.rooms.proofs.NamesAlone.{m106_names_alone_equivalent}
 use Rattle.rooms.proofs.Demand3.{demand3_same_record_iff_equivalent}
 
--- ---- two lists that differ in names alone
--- they are equivalent: each room pairs off with the one at its place, and each segment with itself
-pub m106_names_alone_equivalent : (rooms others : List Room) → SameButNames rooms others → Equivalent rooms others
-m106_names_alone_equivalent rooms others same = record {
-  pair_rooms = each_itself (λ i. subst (λ (n : ℕ). i < n) same.count) (λ i. subst (λ (n : ℕ). i < n) (sym same.count));
-  pair_segments = each_itself (same_segment same) (same_segment (same_but_names_sym same));
-  holds = λ s segment i h side. (
-    subst (Holds s) (same_edge same side i),
-    subst (Holds s) (sym (same_edge same side i)),
-  );
-}
-  where
-    each_itself : {A : Type 0} {P Q : A → Type 0} → ((x : A) → P x → Q x) → ((x : A) → Q x → P x) → Pairing P Q
-    each_itself there back = record {
-      to = λ x. x;
-      from = λ x. x;
-      to_has = there;
-      from_has = back;
-      from_to = λ x h. refl;
-      to_from = λ x h. refl;
-    }
-
+-- ---- two lists that differ in names alone; NamesAlone shows them equivalent
 module _ (rooms others : List Room) (same : SameButNames rooms others) where
   -- the same squares are covered
   pub m106_covers : (i x y : ℕ) → i < length rooms → Covers (room_in rooms i) x y ↔ Covers (room_in others i) x y

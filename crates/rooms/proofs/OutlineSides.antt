@@ -1,15 +1,13 @@
--- The four sides of the outline are segments: along each an edge is drawn everywhere, and none is drawn past the outline. So the
--- segment of an edge on the outline is the outline's side.
-use Rattle.std.specs.Prelude.{◌≡◌, refl, List, ℕ, ◌≤◌, ◌<◌, length}
-use Rattle.std.proofs.Common.{sym, arith}
+-- The four sides of the outline are segments: along each an edge is drawn everywhere, and none is drawn past the outline.
+use Rattle.std.specs.Prelude.{List, ℕ, ◌≤◌, ◌<◌, length}
+use Rattle.std.proofs.Common.{arith}
 use Rattle.finite.specs.Search.{Each}
 use Rattle.drawing.specs.declared.Room.{Room}
-use Rattle.rooms.specs.Outline.{room_in, outline}
-use Rattle.rooms.specs.Segment.{upright, flat, Drawn, Segment, Side, left_edge, right_edge, bottom_edge, top_edge, edge, Holds}
+use Rattle.rooms.specs.Outline.{outline}
+use Rattle.rooms.specs.Segment.{upright, flat, Drawn, Segment, Side, left_edge, right_edge, bottom_edge, top_edge, edge}
 use Rattle.rooms.specs.Plan.{Floorplan, swap, swap_floorplan}
 use Rattle.rooms.specs.PlanOf.{plan_of}
 use Rattle.rooms.specs.SharedRow.{west_drawn, east_drawn}
-use Rattle.rooms.proofs.SegmentOfEdge.{segment_of, segment_only}
 use Rattle.rooms.proofs.Steps.{upright→drawn, flat→drawn}
 
 module _ (rooms : List Room) (k : Floorplan (plan_of rooms)) (some : 0 < length rooms) where
@@ -36,15 +34,3 @@ module _ (rooms : List Room) (k : Floorplan (plan_of rooms)) (some : 0 < length 
   outline_side right_edge = upright_side (outline rooms).right (λ z lo hi. upright→drawn rooms (east_drawn (plan_of rooms) k wide z lo hi))
   outline_side bottom_edge = flat_side (outline rooms).bottom (λ z lo hi. flat→drawn rooms (west_drawn (swap (plan_of rooms)) (swap_floorplan k) tall z lo hi))
   outline_side top_edge = flat_side (outline rooms).top (λ z lo hi. flat→drawn rooms (east_drawn (swap (plan_of rooms)) (swap_floorplan k) tall z lo hi))
-
-pub on_outline→side : (rooms : List Room) → Floorplan (plan_of rooms) → (side : Side) (i : ℕ) → i < length rooms
-    → (edge side (room_in rooms i)).line ≡ (edge side (outline rooms)).line
-    → segment_of rooms side i ≡ edge side (outline rooms)
-on_outline→side rooms k side i h e = segment_only rooms k side i h (edge side (outline rooms)) (outline_side rooms k (omega arith) side) (held side e)
-  where
-    held : (side : Side) → (edge side (room_in rooms i)).line ≡ (edge side (outline rooms)).line
-        → Holds (edge side (outline rooms)) (edge side (room_in rooms i))
-    held left_edge e = record { direction = refl; line = sym e; from = (k.fits i h).south; to = (k.fits i h).north }
-    held right_edge e = record { direction = refl; line = sym e; from = (k.fits i h).south; to = (k.fits i h).north }
-    held bottom_edge e = record { direction = refl; line = sym e; from = (k.fits i h).west; to = (k.fits i h).east }
-    held top_edge e = record { direction = refl; line = sym e; from = (k.fits i h).west; to = (k.fits i h).east }

@@ -1,19 +1,19 @@
 -- Equivalent room lists have one label list: direct steps are stated by segments, so they carry over, and with them chains, counts,
 -- labels and positions.
 use Rattle.std.specs.Prelude.{◌≡◌, List, ℕ, suc, ◌≤◌, ◌<◌, length}
-use Rattle.std.proofs.Common.{sym, ap, ◌∙◌, subst₂, inl, inr, arith, ext_get_or}
+use Rattle.std.proofs.Common.{sym, ap, ◌∙◌, inl, inr, arith, ext_get_or}
 use Rattle.finite.specs.Count.{keep→size, keep→rank}
 use Rattle.record.specs.Labels.{label_at}
 use Rattle.drawing.specs.declared.Room.{Room}
-use Rattle.rooms.specs.Outline.{room_in}
-use Rattle.rooms.specs.Segment.{Stretch, Side, left_edge, right_edge, bottom_edge, top_edge, edge, Holds}
+use Rattle.rooms.specs.Segment.{Side, left_edge, right_edge, bottom_edge, top_edge}
 use Rattle.rooms.specs.Orders.{OneSegment, LeftOf, BelowOf, AboveOf}
 use Rattle.rooms.specs.LabelList.{label_of, position_of, room_at_position, label_list}
-use Rattle.rooms.specs.Equivalent.{Pairing, Equivalent}
+use Rattle.rooms.specs.Equivalent.{Equivalent}
 use Rattle.rooms.specs.Chain.{chain_map}
 use Rattle.rooms.specs.Plan.{Floorplan}
 use Rattle.rooms.specs.PlanOf.{plan_of}
 use Rattle.rooms.specs.TwoOrders.{Before, strict}
+use Rattle.rooms.proofs.Equivalence.{equivalent_sym}
 use Rattle.rooms.proofs.RoomOrders.{position_orders, label_orders}
 use Rattle.rooms.proofs.Ranks.{position_is_rank, label_is_rank, room_at_position_lem, length_label_list, label_list_at, label_by_position}
 
@@ -42,46 +42,6 @@ module _ (rooms others : List Room) (k : Floorplan (plan_of rooms)) (ko : Floorp
     keeps→label = omega (arith, label_is_rank rooms k a, label_is_rank others ko (there a), keep→rank (strict (label_orders rooms k)) (strict (label_orders others ko)) there c.there< keeps_label_order size a h)
 
 -- ---- equivalence keeps direct steps
-unfoldable pub equivalent_sym : {rooms others : List Room} → Equivalent rooms others → Equivalent others rooms
-equivalent_sym {rooms} {others} e = record {
-  pair_rooms = turned_round e.pair_rooms;
-  pair_segments = turned_round e.pair_segments;
-  holds = λ s g i h side. let alike = e.holds (back s) (e.pair_segments.from_has s g) (room_back i) (e.pair_rooms.from_has i h) side in (
-    λ held. alike.1 (subst₂ (λ (t : Stretch) (j : ℕ). Holds t (edge side (room_in others j))) (sym (e.pair_segments.to_from s g)) (sym (e.pair_rooms.to_from i h)) held),
-    λ held. subst₂ (λ (t : Stretch) (j : ℕ). Holds t (edge side (room_in others j))) (e.pair_segments.to_from s g) (e.pair_rooms.to_from i h) (alike.0 held),
-  );
-}
-  where
-    turned_round : {A B : Type 0} {P : A → Type 0} {Q : B → Type 0} → Pairing P Q → Pairing Q P
-    turned_round p = record { to = p.from; from = p.to; to_has = p.from_has; from_has = p.to_has; from_to = p.to_from; to_from = p.from_to }
-
-    back : Stretch → Stretch
-    back = e.pair_segments.from
-
-    room_back : ℕ → ℕ
-    room_back = e.pair_rooms.from
-
--- and the partners' partners of a third list
-pub equivalent_trans : {rooms others more : List Room} → Equivalent rooms others → Equivalent others more → Equivalent rooms more
-equivalent_trans e f = record {
-  pair_rooms = chained e.pair_rooms f.pair_rooms;
-  pair_segments = chained e.pair_segments f.pair_segments;
-  holds = λ s g i h side.
-      let there = e.holds s g i h side in
-      let further = f.holds (e.pair_segments.to s) (e.pair_segments.to_has s g) (e.pair_rooms.to i) (e.pair_rooms.to_has i h) side in
-      (λ held. further.0 (there.0 held), λ held. there.1 (further.1 held));
-}
-  where
-    chained : {A B C : Type 0} {P : A → Type 0} {Q : B → Type 0} {R : C → Type 0} → Pairing P Q → Pairing Q R → Pairing P R
-    chained p q = record {
-      to = λ x. q.to (p.to x);
-      from = λ z. p.from (q.from z);
-      to_has = λ x h. q.to_has (p.to x) (p.to_has x h);
-      from_has = λ z h. p.from_has (q.from z) (q.from_has z h);
-      from_to = λ x h. ap p.from (q.from_to (p.to x) (p.to_has x h)) ∙ p.from_to x h;
-      to_from = λ z h. ap q.to (p.to_from (q.from z) (q.from_has z h)) ∙ q.to_from z h;
-    }
-
 module _ (rooms others : List Room) (e : Equivalent rooms others) where
   pub equivalent→keeps_one_segment : (of_a of_b : Side) (a b : ℕ) → OneSegment rooms of_a of_b a b
       → OneSegment others of_a of_b (e.pair_rooms.to a) (e.pair_rooms.to b)

@@ -7,7 +7,7 @@ use Rattle.rooms.specs.Orders.{one}
 use Rattle.rooms.specs.Plan.{Plan, Floorplan, swap, LeftStep, Left, left→right≤left, left_step→none_between, none_between→left_step}
 use Rattle.rooms.specs.SharedRow.{left_neighbour, right_neighbour}
 use Rattle.rooms.specs.Outline.{outline}
-use Rattle.rooms.proofs.OutlineSides.{on_outline→side}
+use Rattle.rooms.proofs.OnOutline.{on_outline→side}
 use Rattle.rooms.specs.Segment.{Stretch, Side, left_edge, right_edge, bottom_edge, top_edge, edge}
 use Rattle.rooms.specs.PlanOf.{plan_of}
 use Rattle.rooms.proofs.SegmentOfEdge.{segment_of, segment_line, same→one_segment, one_segment→same}

@@ -3,7 +3,7 @@ use Rattle.std.specs.Prelude.{◌≡◌, List}
 use Rattle.std.proofs.Math.Path.{refl}
 use Rattle.std.proofs.Common.{sym, ◌∙◌, subst, subst₂, le_refl, arith}
 use Rattle.std.proofs.Math.Logic.{inl, inr}
-use Prim.Native.Nat.{ℕ, ◌+◌, ◌-◌, ◌≤◌, ◌<◌, min, max, zero-le}
+use Prim.Native.Nat.{ℕ, ◌-◌, ◌≤◌, ◌<◌, min, max, zero-le}
 use Rattle.std.proofs.Math.ListN.{length}
 use Rattle.finite.specs.Decide.{le_or_lt}
 use Rattle.finite.specs.Search.{Each}
@@ -11,45 +11,11 @@ use Rattle.drawing.specs.declared.Room.{Room}
 use Rattle.rooms.specs.Outline.{room_in}
 use Rattle.rooms.specs.Segment.{Direction, upright, flat, Stretch, Drawn, Segment, Side, left_edge, right_edge, bottom_edge, top_edge, edge, Holds}
 use Rattle.rooms.specs.Orders.{OneSegment}
-use Rattle.rooms.specs.DecideSegment.{limit, drawn→before_limit, dec_drawn}
-use Rattle.rooms.specs.Runs.{run_start, run_start_lem, run_end, run_end_lem}
 use Rattle.rooms.specs.Plan.{Floorplan}
 use Rattle.rooms.specs.PlanOf.{plan_of}
+use Rattle.rooms.proofs.Lengthened.{lengthened, drawn→lengthened_segment}
 
 module _ (rooms : List Room) where
-  -- a stretch made as long as drawn unit edges go on, both ways
-  pub lengthened : Stretch → Stretch
-  lengthened s = record {
-    direction = s.direction;
-    line = s.line;
-    from = run_start (Drawn rooms s.direction s.line) (dec_drawn rooms s.direction s.line) s.from;
-    to = run_end (Drawn rooms s.direction s.line) (dec_drawn rooms s.direction s.line) (limit rooms - s.to) s.to;
-  }
-
-  pub drawn→lengthened_segment : (s : Stretch) → s.from < s.to → Each (Drawn rooms s.direction s.line) s.from s.to
-      → Segment rooms (lengthened s) × Holds (lengthened s) s
-  unfolding lengthened
-  drawn→lengthened_segment s h f =
-      let start = run_start_lem P (dec_drawn rooms s.direction s.line) s.from in
-      let end = run_end_lem P (dec_drawn rooms s.direction s.line) (limit rooms - s.to) s.to past_limit in (
-        record {
-          some = omega (arith, start.le, end.le);
-          unbroken = λ z a b. elim (le_or_lt s.from z) [
-            | inr c ↦ start.has z a c
-            | inl c ↦ elim (le_or_lt s.to z) [ inr e ↦ f z c e | inl e ↦ end.has z e b ]
-          ];
-          ends = end.not_there;
-          starts = start.not_before;
-        },
-        record { direction = refl; line = refl; from = start.le; to = end.le },
-      )
-    where
-      P : ℕ → Type 0
-      P = Drawn rooms s.direction s.line
-
-      past_limit : ¬ P (s.to + (limit rooms - s.to))
-      past_limit q = omega (arith, drawn→before_limit rooms s.direction s.line (s.to + (limit rooms - s.to)) q)
-
   overlap→within : (s t : Stretch) → Segment rooms s → Segment rooms t → s.direction ≡ t.direction → s.line ≡ t.line
       → (z : ℕ) → s.from ≤ z → z < s.to → t.from ≤ z → z < t.to
       → (t.from ≤ s.from) × (s.to ≤ t.to)
@@ -82,7 +48,7 @@ module _ (rooms : List Room) where
 
   -- the segment of an edge
   pub segment_of : Side → ℕ → Stretch
-  segment_of side i = lengthened (edge side (room_in rooms i))
+  segment_of side i = lengthened rooms (edge side (room_in rooms i))
 
   pub segment_line : (side : Side) (i : ℕ) → (segment_of side i).line ≡ (edge side (room_in rooms i)).line
   unfolding segment_of lengthened
@@ -103,7 +69,7 @@ module _ (rooms : List Room) where
     pub segment_holds : (side : Side) (i : ℕ) → i < length rooms
         → Segment rooms (segment_of side i) × Holds (segment_of side i) (edge side (room_in rooms i))
     unfolding segment_of
-    segment_holds side i h = drawn→lengthened_segment (edge side (room_in rooms i)) (edge_some side i h) (edge_drawn side i h)
+    segment_holds side i h = drawn→lengthened_segment rooms (edge side (room_in rooms i)) (edge_some side i h) (edge_drawn side i h)
 
     -- and no other segment does
     pub segment_only : (side : Side) (i : ℕ) → i < length rooms → (s : Stretch) → Segment rooms s
@@ -131,10 +97,10 @@ module _ (rooms : List Room) where
         e.direction ≡ f.direction → e.line ≡ f.line → Each (Drawn rooms f.direction f.line) (min e.from f.from) (max e.to f.to) → OneSegment rooms of_a of_b a b
     line→one_segment of_a of_b a b ha hb p q g =
         let l = edge_some of_b b hb in
-        let (u, v) = drawn→lengthened_segment s (omega arith) g in record {
+        let (u, v) = drawn→lengthened_segment rooms s (omega arith) g in record {
           a< = ha;
           b< = hb;
-          by = lengthened s;
+          by = lengthened rooms s;
           segment = u;
           holds_a =
               record {

@@ -32,8 +32,5 @@ pub mod FourRelations
 -- segments, and the relations of a list
 pub mod Runs
 pub mod Ranks
--- equivalence
 -- the grid drawing
 pub mod GridRelations
-
--- Worked plans

@@ -1,5 +1,4 @@
--- Labels and positions are 1 plus ranks in the two orders, so both are 1 to n, each once, and together they tell left and below.
--- The labels by position have none of the patterns 3-14-2 and 2-41-3.
+-- Numbers of rooms that are 1 to n, each once, as labels and positions are.
 use Rattle.std.specs.Prelude.{◌≡◌, ℕ, ◌≤◌, ◌<◌}
 use Rattle.finite.specs.Search.{Some}
 

@@ -1,4 +1,4 @@
--- The blocks of a node: how many there are, and where the first one ends.
+-- The blocks of a node: rooms that no line parts, and where the first block ends.
 use Rattle.std.specs.Prelude.{ℕ, ◌≤◌, ◌<◌}
 use Rattle.slicing.specs.Cuts.{Parts}
 use Rattle.slicing.specs.declared.Cut.{Cut}

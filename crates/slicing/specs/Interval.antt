@@ -1,5 +1,5 @@
--- Rooms whose labels are an interval: each has a place among their positions, by its label in the order of a cut, and where a line parts
--- them those before it and those after it have intervals of labels again.
+-- Rooms whose labels are an interval; the place of each among their positions, by its label in the order of a cut; and where the intervals
+-- of the rooms before a line and of those after it begin.
 use Rattle.std.specs.Prelude.{ℕ, suc, ◌+◌, ◌-◌, ◌≤◌, ◌<◌}
 use Rattle.finite.specs.Search.{Each}
 use Rattle.slicing.specs.Split.{Distinct}

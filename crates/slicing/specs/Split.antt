@@ -1,5 +1,4 @@
--- Two or more rooms without the shapes 2413 and 3142 are parted by a line. One room more keeps a line of the rooms before it, or finds a
--- new one.
+-- Rooms in a row with different labels.
 use Rattle.std.specs.Prelude.{◌≢◌, ℕ, ◌≤◌, ◌<◌}
 
 -- no label stands at two positions

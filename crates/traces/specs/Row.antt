@@ -1,4 +1,4 @@
--- A row of moves: it leads from one state to another, or its first refused move stops it. What the replay gives is exactly this.
+-- A row of moves: it leads from one state to another, or its first refused move stops it.
 use Rattle.std.specs.Prelude.{List, [], ◌∷◌, ℕ, suc}
 use Rattle.record.specs.Triple.{Triple}
 use Rattle.record.specs.declared.Refusal.{Refusal}
