@@ -17,8 +17,8 @@ pub record FirstIn (group : List ℕ) (first : ℕ) : Type 0 where
   pub has : first ≤ 256 → Member group first
   pub none_before : EachIn group (λ k. first ≤ k)
 
--- what is answered where the two relations of a group that comes before another one are left and below
-abbrev pub verdict_of : (some_left some_below : Bool) (left below : Side) → GroupsAnswer
-verdict_of some_left false left below = Related left
-verdict_of false true left below = Related below
-verdict_of true true left below = Mixed
+-- what is answered where the two relations of a group that comes before another one are `one`, left, and `other`, below
+abbrev pub verdict_of : (some_left some_below : Bool) (one other : Side) → GroupsAnswer
+verdict_of some_left false one other = Related one
+verdict_of false true one other = Related other
+verdict_of true true one other = Mixed

@@ -4,3 +4,4 @@ pub mod Worked
 pub mod Sides
 pub mod Scope
 pub mod Completion
+pub mod FirstOne
