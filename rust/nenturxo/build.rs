@@ -34,9 +34,10 @@ fn archive_folder() -> Result<PathBuf, String> {
         return holding_the_archive(PathBuf::from(folder));
     }
     let root = repository_root()?;
-    let folder = root.join("target").join("staticlib");
+    let crate_folder = root.join("crates").join(LIBRARY);
+    let folder = crate_folder.join("out");
     if !folder.join(ARCHIVE).is_file() {
-        prove_and_build(&root)?;
+        prove_and_build(&crate_folder)?;
     }
     holding_the_archive(folder)
 }
@@ -51,17 +52,17 @@ fn repository_root() -> Result<PathBuf, String> {
 
 /// Proves the library and writes its archive. What that prints goes to standard
 /// error, since cargo reads this program's standard output.
-fn prove_and_build(root: &Path) -> Result<(), String> {
+fn prove_and_build(crate_folder: &Path) -> Result<(), String> {
     let status = Command::new("rt")
-        .args(["staticlib", LIBRARY])
-        .current_dir(root)
+        .arg("lib")
+        .current_dir(crate_folder)
         .stdout(std::io::stderr())
         .status()
-        .map_err(|error| format!("rt staticlib {LIBRARY} did not start: {error}"))?;
+        .map_err(|error| format!("rt lib did not start: {error}"))?;
     if status.success() {
         Ok(())
     } else {
-        Err(format!("rt staticlib {LIBRARY}: {status}"))
+        Err(format!("rt lib: {status}"))
     }
 }
 
