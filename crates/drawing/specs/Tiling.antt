@@ -10,8 +10,8 @@ use Rattle.drawing.specs.Squares.{Covers, covers_own, room_inside, owner_of, own
 abbrev pub Different : (a b c d : ℕ) → Type 0
 Different a b c d = (a ≢ b) × (a ≢ c) × (a ≢ d) × (b ≢ c) × (b ≢ d) × (c ≢ d)
 
--- the rooms of four different positions meet at the point (x, y): one has its lower_left corner there, one its lower_right, one its
--- upper_left, one its upper_right
+-- the rooms of four different positions meet at the point (x, y): one has its lower-left corner there, one its lower-right, one its
+-- upper-left, one its upper-right
 pub record FourMeet (room : ℕ → Room) (n x y : ℕ) : Type 0 where
   pub lower_left : SomePosition (λ i. ((room i).left ≡ x) × ((room i).bottom ≡ y)) n
   pub lower_right : SomePosition (λ i. ((room i).right ≡ x) × ((room i).bottom ≡ y)) n
@@ -42,7 +42,7 @@ drawing_tiles {f} {n} once = record {
       let hy : y < n = omega (arith, a.top, room_inside f n i fi ti) in
       owner_only f n x y hx hy once i fi ti a ∙ sym (owner_only f n x y hx hy once j fj tj b);
   covered = λ x y hx hy. let at = owner_position f n x y hx hy in (owner_of f x y, at.0, omega arith, owner_covers f n x y hx hy);
-  -- a room covers a square of the diagonal, so its upper_left corner is above the diagonal and its lower_right corner below it
+  -- a room covers a square of the diagonal, so its upper-left corner is above the diagonal and its lower-right corner below it
   no_four_meet = λ x y m.
       let (i, fi, ti, a) = m.upper_left in
       let (j, fj, tj, b) = m.lower_right in

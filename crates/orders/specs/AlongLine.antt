@@ -15,8 +15,8 @@ pub record End (n : ℕ) (on from to : ℕ → ℕ) (line point c : ℕ) : Type 
   pub reached : Reached n on from to line point c
   pub stop : ¬ Starts n on from line (to c)
 
--- Room c follows room b: it is the last one down the line of b's right side, from b's upper_right corner; or the last one to the left
--- along the line of b's top. That is the rule of positions. With bottom and top exchanged it is the rule of labels: from b's lower_right
+-- Room c follows room b: it is the last one down the line of b's right side, from b's upper-right corner; or the last one to the left
+-- along the line of b's top. That is the rule of positions. With bottom and top exchanged it is the rule of labels: from b's lower-right
 -- corner up, or to the left along the line of b's bottom.
 pub data Follows (n : ℕ) (left bottom right top : ℕ → ℕ) (b c : ℕ) : Type 0 where
   beside : End n left top bottom (right b) (top b) c → Follows n left bottom right top b c

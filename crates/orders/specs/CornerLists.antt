@@ -37,7 +37,7 @@ module _ {lefts bottoms rights tops there back : List ℕ} (g : PairedPlan lefts
   c : CornersPaired p (number_at there) (number_at back)
   c = g.pairs.paired
 
-  -- ---- by position, from the outline's lower_left corner
+  -- ---- by position, from the outline's lower-left corner
   positions_by_corners : RankedIn lefts bottoms rights tops p.west p.south (position_of rooms)
   positions_by_corners =
       subst (λ (q : Plan). Ranked q.count q.left q.bottom q.right q.top q.west q.south (position_of rooms))
@@ -67,7 +67,7 @@ module _ {lefts bottoms rights tops there back : List ℕ} (g : PairedPlan lefts
     linked = positions_linked;
   }
 
-  -- ---- by label, from its upper_left corner: bottom and top exchanged
+  -- ---- by label, from its upper-left corner: bottom and top exchanged
   labels_by_corners : RankedIn lefts tops rights bottoms p.west p.north (label_of rooms)
   labels_by_corners = subst (λ (q : Plan). Ranked q.count q.left q.top q.right q.bottom q.west q.north (label_of rooms))
       (plan_is lefts bottoms rights tops g.lengths) (labels_ranked rooms (accepted→floorplan rooms g.accepted))

@@ -1,5 +1,5 @@
 -- The room that follows b by position, found along the line of b's right side: b is directly left of the last room c down that line from
--- b's upper_right corner, and no room z stands between them. Were z left of c, then the last step into c starts on the same line, at b or
+-- b's upper-right corner, and no room z stands between them. Were z left of c, then the last step into c starts on the same line, at b or
 -- below b; were z below c, then the last step into c also leads to the lowest room left of the line, which is b or below b.
 use Rattle.std.specs.Prelude.{◌≡◌, refl, ◌⊎◌, ℕ, zero, ◌-◌, ◌≤◌, ◌<◌, min, max}
 use Rattle.std.proofs.Common.{sym, ap, ◌∙◌, subst, inl, inr, zero-le, arith}
@@ -46,7 +46,7 @@ module _ (p : Plan) (k : Floorplan p) where
     ]
   ]
 
-  -- the line ends at b's upper_right corner, where another room has its upper_left corner there
+  -- the line ends at b's upper-right corner, where another room has its upper-left corner there
   no_edge_above : (b c : ℕ) → b < count → c < count → left c ≡ right b → top c ≡ top b → ¬ UprightEdge p (right b) (top b)
   no_edge_above b c hb hc e f edge =
       let fb = k.fits b hb in
@@ -66,7 +66,7 @@ module _ (p : Plan) (k : Floorplan p) where
         },
       )
 
-  -- and at the lower_left corner of a room c, where no room starts there
+  -- and at the lower-left corner of a room c, where no room starts there
   no_edge_below : (line c : ℕ) → c < count → west < line → left c ≡ line → ¬ Starts count left top line (bottom c) → zero < bottom c
       → ¬ UprightEdge p line (bottom c - 1)
   no_edge_below line c hc inside e stop some edge =

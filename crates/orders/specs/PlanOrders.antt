@@ -1,4 +1,4 @@
--- The rule of the next room for the two orders of a floorplan. For positions, "left or below": the first room has its lower_left corner
+-- The rule of the next room for the two orders of a floorplan. For positions, "left or below": the first room has its lower-left corner
 -- at the outline's, and next comes the room that follows. Over the line of a room's top that is NextRoom with x and y swapped. For
 -- labels, "left or above", it is the same of the plan upside down.
 use Rattle.std.specs.Prelude.{◌≡◌, ◌⊎◌, ℕ, ◌-◌, ◌≤◌, ◌<◌}
@@ -50,7 +50,7 @@ beyond_right p k b hb h =
 module _ (p : Plan) (k : Floorplan p) where
   open p use {count, left, bottom, right, top, west, south, east, north}
 
-  -- where the room beyond b's upper_right corner reaches higher than b, or there is none, a room starts on the line of b's top
+  -- where the room beyond b's upper-right corner reaches higher than b, or there is none, a room starts on the line of b's top
   starts_over : (b : ℕ) → b < count → top b < north
       → (east ≤ right b) ⊎ Some (λ c. RoomCovers p c (right b) (top b) × (left c ≡ right b)) 0 count
       → Starts count bottom right (top b) (right b)
@@ -70,7 +70,7 @@ module _ (p : Plan) (k : Floorplan p) where
       ] in
       (d, zero-le, hd, (e, r))
 
-  -- one of the two lines has a room that starts at b's upper_right corner, unless that is the outline's
+  -- one of the two lines has a room that starts at b's upper-right corner, unless that is the outline's
   starts_or_corner : (b : ℕ) → b < count → StartsAtCorner count left bottom right top b ⊎ ((right b ≡ east) × (top b ≡ north))
   starts_or_corner b hb = go (k.fits b hb) (le_or_lt east (right b)) (le_or_lt north (top b))
     where

@@ -28,7 +28,7 @@ fn wide_byte(byte: u8) -> usize
 // ---- the order
 
 // Where each link leads, and whether the walk stops there. From room c the walk goes on along a line at 2c, to the room under c or beside
-// it, and at 2c + 1 it has come to the line's end, c itself, which comes next; from there it goes on at c's upper_right corner. A link
+// it, and at 2c + 1 it has come to the line's end, c itself, which comes next; from there it goes on at c's upper-right corner. A link
 // down to room d goes on at d where a room is under d, and a link aside where a room is beside d.
 fn turn(links: &[u16], count: usize, turned: &mut [u16])
     requires links_within { LinksWithin count links.now }

@@ -121,7 +121,7 @@ pub fn slack(
     }
 }
 
-// Whether a placing, the lower_left corners of the rooms by position, honours all left and below relations; or the refusal.
+// Whether a placing, the lower-left corners of the rooms by position, honours all left and below relations; or the refusal.
 pub fn placing_in(
     record: &[u8],
     widths: &[u16],

@@ -1,4 +1,4 @@
--- No room is both right of a room a and above it. A staircase goes up from a's upper_right corner: straight up where an edge is
+-- No room is both right of a room a and above it. A staircase goes up from a's upper-right corner: straight up where an edge is
 -- drawn, else to the right as far as edges are drawn. The rooms right of a stay on its right, those above a on its left.
 use Rattle.std.specs.Prelude.{◌≡◌}
 use Rattle.std.proofs.Math.Path.{refl, subst}

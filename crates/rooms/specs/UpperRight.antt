@@ -1,5 +1,5 @@
 -- A room b to the upper right of a room a: a is left of b or below b. By induction on how far up and to the right b lies. At b's
--- lower_left corner a line ends on another: where the upright line goes on downward, the room under b stands on b's line and is
+-- lower-left corner a line ends on another: where the upright line goes on downward, the room under b stands on b's line and is
 -- nearer to a; else the same holds with x and y swapped. UpsideDown has the lower right.
 use Rattle.std.specs.Prelude.{refl, ◌≢◌, ◌⊎◌, ℕ, zero, suc, ◌+◌, ◌-◌, ◌≤◌, ◌<◌}
 use Rattle.std.proofs.Common.{sym, ap, subst, inl, inr, zero-le, arith}
@@ -17,7 +17,7 @@ other_way_lem (inr b) = inl b
 module _ (p : Plan) (k : Floorplan p) where
   open p use {count, left, bottom, right, top}
 
-  -- the step of the induction: u is the room under b at b's lower_left corner, and v the room left of both
+  -- the step of the induction: u is the room under b at b's lower-left corner, and v the room left of both
   step_down : (a b u v : ℕ) → a < count → b < count → u < count → v < count → right a ≤ left b → top a ≤ bottom b
       → RoomCovers p u (left b) (bottom b - 1) → RoomCovers p v (left b - 1) (bottom b - 1) → RoomCovers p v (left b - 1) (bottom b)
       → (left u + bottom u < left b + bottom b → right a ≤ left u → top a ≤ bottom u → Left p a u ⊎ Below p a u) → Left p a b ⊎ Below p a b

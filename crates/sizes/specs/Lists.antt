@@ -57,7 +57,7 @@ unfoldable pub slack_of : (labels : List ℕ) (way : Direction) (sizes : List �
 unfolding start_by
 slack_of labels way sizes outline = slack (label_at labels) way (number_at sizes) (length labels) outline
 
--- the rooms with their lower_left corners there honour "all left and below relations"
+-- the rooms with their lower-left corners there honour "all left and below relations"
 abbrev pub HonoursAll : (labels : List ℕ) (sizes corners : EachWay (List ℕ)) → Type 0
 HonoursAll labels sizes corners =
     (way : Direction) → Honours (label_at labels) way (number_at (sizes way)) (length labels) (number_at (corners way))

@@ -41,7 +41,7 @@ abbrev pub RoomsHonour : List Room → (sizes corners : EachWay (List ℕ)) → 
 RoomsHonour rooms sizes corners = (way : Direction) (a b : ℕ) → a < length rooms → b < length rooms → StandsBefore rooms way a b
     → end_of sizes corners way (position_of rooms a) ≤ start_of corners way (position_of rooms b)
 
--- the lists hold the sizes and the lower_left corners that the rooms have themselves
+-- the lists hold the sizes and the lower-left corners that the rooms have themselves
 pub record OwnCorners (rooms : List Room) (sizes corners : EachWay (List ℕ)) : Type 0 where
   pub left : (a : ℕ) → a < length rooms → start_of corners across (position_of rooms a) ≡ (room_in rooms a).left
   pub right : (a : ℕ) → a < length rooms → end_of sizes corners across (position_of rooms a) ≡ (room_in rooms a).right

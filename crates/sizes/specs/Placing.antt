@@ -1,4 +1,4 @@
--- Placings: a lower_left corner for each room. A placing honours all left and below relations "exactly if each room ends, as a
+-- Placings: a lower-left corner for each room. A placing honours all left and below relations "exactly if each room ends, as a
 -- whole-number sum, no later than every room right of it or above it begins in that direction".
 use Rattle.std.specs.Prelude.{ℕ, suc, ◌+◌, ◌≤◌}
 use Rattle.std.proofs.Math.Decide.{dec_le}
