@@ -5,7 +5,7 @@ use Rattle.finite.specs.Search.{Some, First}
 use Rattle.finite.specs.First.{first_of}
 use Rattle.record.specs.Barred.{Barred}
 use Rattle.patterns.specs.Pattern.{Meets, Four, PatternAt, Before, FirstPattern}
-use Rattle.patterns.specs.FirstOne.{Met, condition_met, With1, With2, With3, With4, dec_with1, dec_with2, dec_with3, dec_with4, barred_with, first_pattern}
+use Rattle.patterns.specs.FirstOne.{Met, condition_met, With1, With2, With3, With4, dec_with1, dec_with2, dec_with3, dec_with4, barred_with, first_four}
 use Rattle.patterns.specs.declared.Condition.{Condition}
 use Rattle.patterns.specs.declared.Condition.TheVariants as condition
 
@@ -55,9 +55,9 @@ module _ (f : ℕ → ℕ) (n : ℕ) where
       l.before q.l (omega (arith, x.order)) h (subst (λ (y : ℕ). With4 f n y j.at k.at q.l) e at_j)
 
   -- what is found is the first pattern
-  pub found_is_first : (barred : Barred f n) → FirstPattern f n (first_pattern f n barred).which (first_pattern f n barred).four
-  unfolding first_pattern first_of dec_with1 dec_with2 dec_with3 dec_with4
-  found_is_first barred =
+  pub first_four_first : (barred : Barred f n) → FirstPattern f n (first_four f n barred).which (first_four f n barred).four
+  unfolding first_four first_of dec_with1 dec_with2 dec_with3 dec_with4
+  first_four_first barred =
       let i = first_of (With1 f n) (dec_with1 f n) 1 (suc n) (barred_with f n barred) in
       let j = first_of (With2 f n i.at) (dec_with2 f n i.at) (suc i.at) (suc n) i.has in
       let k = first_of (With3 f n i.at j.at) (dec_with3 f n i.at j.at) (suc j.at) (suc n) j.has in
@@ -68,3 +68,12 @@ module _ (f : ℕ → ℕ) (n : ℕ) where
         };
         first = none_before i j k l;
       }
+
+  -- the first pattern, with the condition that it meets
+  pub record Found : Type 0 where
+    pub which : Condition
+    pub four : Four
+    pub is_first : FirstPattern f n which four
+
+  pub first_pattern : Barred f n → Found
+  first_pattern barred = record { which = (first_four f n barred).which; four = (first_four f n barred).four; is_first = first_four_first barred }

@@ -17,8 +17,8 @@ use Rattle.record.specs.declared.Refusal.{Refusal}
 use Rattle.record.specs.declared.Refusal.TheVariants.{BarredPattern}
 use Rattle.record.specs.declared.LabelsAnswer.TheVariants as labelsAnswers
 use Rattle.patterns.specs.Pattern.{Meets, Four, Before, FirstPattern}
-use Rattle.patterns.specs.FirstOne.{first_pattern}
-use Rattle.patterns.proofs.FirstOne.{pattern_barred, found_is_first}
+use Rattle.patterns.specs.FirstOne.{first_four}
+use Rattle.patterns.proofs.FirstOne.{pattern_barred, first_four_first}
 use Rattle.patterns.specs.Answer.{named, first_or_none, pattern_answer}
 use Rattle.patterns.specs.declared.Condition.{Condition}
 use Rattle.patterns.specs.declared.Condition.TheVariants as condition
@@ -88,13 +88,13 @@ m105_cause labels = permuted_has (PatternSays labels) Refused labels _ (λ refus
     n = length labels
 
     go : (d : Dec (Barred f n)) → Permutation labels → PatternSays labels (first_or_none f n d)
-    go (yes has) p = first p (found_is_first f n has)
+    go (yes has) p = first p (first_four_first f n has)
     go (no free) p = none p free
 
 first_is : (f : ℕ → ℕ) (n : ℕ) (d : Dec (Barred f n)) (which : Condition) (p : Four) → FirstPattern f n which p
     → named which p ≡ first_or_none f n d
 first_is f n (yes has) which p x =
-    let e = m105_only_first f n which _ p _ x (found_is_first f n has) in
+    let e = m105_only_first f n which _ p _ x (first_four_first f n has) in
     λ i. named (e.0 i) (e.1 i)
 first_is f n (no free) which p x = absurd (free (pattern_barred f n which p x.pattern))
 
@@ -153,8 +153,8 @@ module _ (labels : List ℕ) where
         there : LabelsSays labels capacity (labelsAnswers.Refused BarredPattern)
             → (which : Condition) × (p : Four) × (pattern_answer labels ≡ named which p)
         there (labels_in.refused (barred p b)) =
-            let found = first_pattern (label_at labels) (length labels) b in
-            (found.which, found.four, sym (m105_answer labels (first p (found_is_first (label_at labels) (length labels) b))))
+            let found = first_four (label_at labels) (length labels) b in
+            (found.which, found.four, sym (m105_answer labels (first p (first_four_first (label_at labels) (length labels) b))))
         there (labels_in.refused (not_permutation cause)) = elim cause [ ]
 
         back : {which : Condition} {q : Four} → PatternSays labels (named which q) → RefusedWith BarredPattern

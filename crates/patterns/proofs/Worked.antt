@@ -2,7 +2,7 @@
 use Rattle.std.specs.Prelude.{◌≡◌, refl, List, [], ◌∷◌, ℕ}
 use Rattle.record.specs.Causes.{dec_count, dec_outside, dec_twice, dec_barred}
 use Rattle.record.specs.declared.Refusal.TheVariants.{Count, LabelOutside, LabelTwice}
-use Rattle.patterns.specs.FirstOne.{first_pattern}
+use Rattle.patterns.specs.FirstOne.{first_four}
 use Rattle.patterns.specs.Answer.{named, pattern_answer}
 use Rattle.patterns.specs.declared.Condition.{Condition}
 use Rattle.patterns.specs.declared.Condition.TheVariants.{First, Second}
@@ -43,5 +43,5 @@ expected (p ∷ ps) = p.answer ∷ expected ps
 
 -- each list is answered so
 pub worked_patterns : answers plans ≡ expected plans
-unfolding first_pattern dec_count dec_outside dec_twice dec_barred
+unfolding first_four dec_count dec_outside dec_twice dec_barred
 worked_patterns = refl

@@ -5,7 +5,7 @@ use Rattle.record.specs.Barred.{Barred}
 use Rattle.record.specs.Causes.{dec_barred}
 use Rattle.record.specs.Judged.{permuted}
 use Rattle.patterns.specs.Pattern.{Four}
-use Rattle.patterns.specs.FirstOne.{first_pattern}
+use Rattle.patterns.specs.FirstOne.{first_four}
 use Rattle.patterns.specs.declared.Condition.{Condition}
 use Rattle.patterns.specs.declared.PatternAnswer.{PatternAnswer}
 use Rattle.patterns.specs.declared.PatternAnswer.TheVariants.{Pattern, NoPattern, Refused}
@@ -16,7 +16,7 @@ named which p = Pattern which (record { 0 = p.i }) (record { 0 = p.j }) (record 
 
 -- the first pattern, or "no pattern"; f is the label at a position
 abbrev pub first_or_none : (f : ℕ → ℕ) (n : ℕ) → Dec (Barred f n) → PatternAnswer
-first_or_none f n (yes barred) = named (first_pattern f n barred).which (first_pattern f n barred).four
+first_or_none f n (yes barred) = named (first_four f n barred).which (first_four f n barred).four
 first_or_none f n (no free) = NoPattern
 
 -- the answer for a label list

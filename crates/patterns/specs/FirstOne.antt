@@ -54,14 +54,14 @@ module _ (f : ℕ → ℕ) (n : ℕ) where
   barred_with (l, l-from, l-to, (k, k-from, k<l, (j, j-from, j<k, (i, i-from, i<j, met)))) =
       (i, i-from, omega arith, (j, i<j, omega arith, (k, j<k, omega arith, (l, k<l, l-to, met))))
 
-  -- the first pattern, with the condition that it meets
-  pub record Found : Type 0 where
+  -- the first four, and the condition that they meet
+  pub record FirstFour : Type 0 where
     pub which : Condition
     pub four : Four
 
-  unfoldable pub first_pattern : Barred f n → Found
+  unfoldable pub first_four : Barred f n → FirstFour
   unfolding first_of dec_with1 dec_with2 dec_with3 dec_with4 condition_met
-  first_pattern barred =
+  first_four barred =
       let i = first_of With1 dec_with1 1 (suc n) (barred_with barred) in
       let j = first_of (With2 i.at) (dec_with2 i.at) (suc i.at) (suc n) i.has in
       let k = first_of (With3 i.at j.at) (dec_with3 i.at j.at) (suc j.at) (suc n) j.has in

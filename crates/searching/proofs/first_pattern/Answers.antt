@@ -9,8 +9,7 @@ use Rattle.finite.specs.Decide.{le_or_lt}
 use Rattle.record.specs.Labels.{label_at, EachOnce}
 use Rattle.record.proofs.Demand2.{permutation_once}
 use Rattle.labels.specs.Verdicts.{verdict_refused}
-use Rattle.patterns.specs.FirstOne.{first_pattern}
-use Rattle.patterns.proofs.FirstOne.{found_is_first}
+use Rattle.patterns.proofs.FirstOne.{first_pattern}
 use Rattle.patterns.proofs.M105.{first, m105_answer}
 use Rattle.patterns.proofs.Scope.{none_left}
 use Rattle.searching.specs.Search.{name_of}
@@ -27,10 +26,9 @@ found e = elim (le_or_lt e.search-late.result.l e.search-late.result.k) [
   | inl h ↦
       let a = e.args.labels.now in
       let cause = verdict_refused a e.in_default.ensures in
-      let barred = barred_permutation a e.requires.fact_1 cause in
-      let p = first_pattern (label_at a) (length a) barred in
+      let p = first_pattern (label_at a) (length a) (barred_permutation a e.requires.fact_1 cause) in
       let nothing = none_left (label_at a) (length a) (length a) (e.search-late.ensures.none h) (omega arith) in
-      absurd (nothing p.which p.four (found_is_first (label_at a) (length a) barred).pattern)
+      absurd (nothing p.which p.four p.is_first.pattern)
   | inr h ↦ h
 ]
 
