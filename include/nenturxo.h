@@ -4,10 +4,10 @@
  * 3n - 3 bits, at most 97 bytes. Two floorplans have the same record exactly
  * if they are equivalent.
  *
- * Link with libnenturxo.a, which `rt lib` in crates/nenturxo writes to out/ there. Every call
- * takes each slice as a pointer to its first element and its length in
- * elements, and each group as a pointer to its 32 bytes. It gives one number
- * back: at least 0 the result, below 0 a refusal's number negated (enum
+ * Link with libnenturxo.a, which `rt lib` in crates/nenturxo writes to out/
+ * there. Every call takes each slice as a pointer to its first element and its
+ * length in elements, and each group as a pointer to its 32 bytes. It gives one
+ * number back: at least 0 the result, below 0 a refusal's number negated (enum
  * nenturxo_refusal), which the calls on books and on traces give with more to
  * it. A refused call writes nothing. A call that is not refused writes from the
  * front of its output slices, or from the place that is named at it, and leaves
