@@ -16,7 +16,7 @@ ghost use Rattle.book.specs.Summary.{held};
 ghost use Rattle.book.specs.Answer.{next_answer, BookAdd};
 ghost use Rattle.traces.specs.Answer.{Traced};
 ghost use Rattle.counting.specs.Answer.{PlanCount, PlanTotal};
-ghost use Rattle.entering.specs.Answer.{slices as roomSlices, RoomsIn};
+ghost use Rattle.entering.specs.Answer.{slices as room_slices, RoomsIn};
 ghost use Rattle.codes.specs.Code.{Coded, rooms_code, labels_code, pattern_code, tidy_code, record_code, tree_code, question_code};
 ghost use Rattle.codes.specs.Code.{next_code, add_code, corners_code, slack_code, placing_code, groups_code, trace_code, count_code};
 
@@ -34,8 +34,8 @@ pub extern "C" fn nenturxo_rooms_in(
     names: &mut [u16],
 ) -> i32
     ensures { Coded rooms_code result (λ answer. RoomsIn rooms.now
-        (roomSlices «record».old labels.old positions.old names.old) answer
-        (roomSlices «record».new labels.new positions.new names.new)) }
+        (room_slices «record».old labels.old positions.old names.old) answer
+        (room_slices «record».new labels.new positions.new names.new)) }
 {
     let answer = plans::rooms_in(rooms, record, labels, positions, names);
     codes::rooms_code(answer)

@@ -1,3 +1,4 @@
+-- Theorems that an edit of a definition breaks, and what they rest on: of the modules that specs/ has too, all but the definitions
 pub mod FromPosition
 pub mod M105
 pub mod Worked

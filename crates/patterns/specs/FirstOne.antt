@@ -49,7 +49,7 @@ module _ (f : ℕ → ℕ) (n : ℕ) where
   unfolding dec_some dec_with2
   dec_with1 i = dec_some _ (dec_with2 i) (suc i) (suc n)
 
-  -- and in a barred list some position is such
+  -- in a barred list some position is the first of a pattern
   pub barred_with : Barred f n → Some With1 1 (suc n)
   barred_with (l, l-from, l-to, (k, k-from, k<l, (j, j-from, j<k, (i, i-from, i<j, met)))) =
       (i, i-from, omega arith, (j, i<j, omega arith, (k, j<k, omega arith, (l, k<l, l-to, met))))
