@@ -1,5 +1,3 @@
 -- The laws that the proofs of the functions cite.
 pub mod Cases
-pub mod Lines
-pub mod Beside
 pub mod SideFacts

@@ -1,10 +1,12 @@
-// A room of a floorplan, and how two rooms stand to each other. The definitions of the grid drawing and its theorems stand in specs/.
+// A room of a floorplan, the corners of the rooms of a drawing, and how two rooms stand to each other. The definitions of the grid drawing
+// and its theorems stand in specs/.
 #![tactic(auto)]
 
 ghost use Rattle.std.specs.Prelude.{◌≡◌, ◌≢◌, ◌⊎◌, suc, ◌≤◌, ◌<◌, length};
 ghost use Rattle.finite.specs.Decide.{Tells};
 ghost use Rattle.record.specs.Labels.{label_at};
 ghost use Rattle.drawing.specs.Side.{side_of};
+ghost use Rattle.drawing.specs.Corners.{room_in};
 ghost use Rattle.drawing.specs.InnerLine.{InnerLineOf, ShareInnerLine, FaceOnOneLine};
 ghost use Rattle.drawing.specs.Within.{Within};
 
@@ -21,6 +23,39 @@ pub struct Room {
     pub right: u16,
     pub top: u16,
     pub name: u16,
+}
+
+// The corners of the rooms of a drawing, each in a list by position. A record has at most 255 rooms.
+#[derive(Clone, Copy)]
+pub struct Corners {
+    pub left: [u8; 255],
+    pub bottom: [u8; 255],
+    pub right: [u8; 255],
+    pub top: [u8; 255],
+}
+
+impl Corners {
+    // Nothing read yet: 0 everywhere.
+    pub const NONE: Corners = Corners {
+        left: [0; 255],
+        bottom: [0; 255],
+        right: [0; 255],
+        top: [0; 255],
+    };
+
+    // The room with index i. It is unnamed.
+    pub fn room(&self, i: usize) -> Room
+        requires { i < 255 }
+        ensures { result ≡ room_in self.now (suc i) }
+    {
+        Room {
+            left: u16::from(self.left[i]),
+            bottom: u16::from(self.bottom[i]),
+            right: u16::from(self.right[i]),
+            top: u16::from(self.top[i]),
+            name: 0,
+        }
+    }
 }
 
 // "The relation (left, right, above, below) of the first to the second": the first room
@@ -46,14 +81,14 @@ pub fn index(position: Position) -> usize
     requires { 1 ≤ position.0 }
     ensures { suc result ≡ position.0 }
 {
-    position.0 as usize - 1
+    usize::from(position.0) - 1
 }
 
 // On which side of the room at the second position the one at the first stands. The room at the earlier position is left of the
 // other one or below it, so the one at the later position is right of the other one or above it.
 pub fn side_of(labels: &[u8], first: Position, second: Position) -> Side
-    requires fact_1 { (1 ≤ first.0) × (first.0 ≤ length labels.now) × (1 ≤ second.0) × (second.0 ≤ length labels.now) }
-    requires fact_2 { first.0 ≢ second.0 }
+    requires inside { (1 ≤ first.0) × (first.0 ≤ length labels.now) × (1 ≤ second.0) × (second.0 ≤ length labels.now) }
+    requires different { first.0 ≢ second.0 }
     ensures { result ≡ side_of (label_at labels.now) first.0 second.0 }
 {
     let i = index(first);
@@ -78,7 +113,7 @@ fn share_end(n: usize, from: u16, to: u16, low: u16, high: u16) -> bool
     ensures { Tells result (InnerLineOf n low high from ⊎ InnerLineOf n low high to) }
 {
     let both_start = (from == low) & (0 < from);
-    let both_end = (to == high) & ((to as usize) < n);
+    let both_end = (to == high) & (usize::from(to) < n);
     ((from == high) | both_start) | ((to == low) | both_end)
 }
 

@@ -4,25 +4,13 @@ use Rattle.drawing.proofs.Cases.{side_left, side_below, side_right, side_above}
 use Rattle.drawing.proofs.side_of.Goals as goal
 
 pub returns-then-labels-i : goal.returns-then-labels-i
-returns-then-labels-i c =
-    let second = c.index-j in
-    let first = c.index-i in
-    side_left _ _ _ first.result second.result first.ensures second.ensures c.if-i-j.true c.if-labels-i.true
+returns-then-labels-i c = side_left _ _ _ _ _ c.index-i.ensures c.index-j.ensures c.if-i-j.true c.if-labels-i.true
 
 pub returns-then-i-j : goal.returns-then-i-j
-returns-then-i-j c =
-    let second = c.index-j in
-    let first = c.index-i in
-    side_below _ _ _ first.result second.result first.ensures second.ensures c.if-i-j.true c.if-labels-i.false
+returns-then-i-j c = side_below _ _ _ _ _ c.index-i.ensures c.index-j.ensures c.if-i-j.true c.if-labels-i.false
 
 pub returns-then-labels-j : goal.returns-then-labels-j
-returns-then-labels-j c =
-    let second = c.index-j in
-    let first = c.index-i in
-    side_right _ _ _ first.result second.result first.ensures second.ensures c.if-i-j.false c.if-labels-j.true
+returns-then-labels-j c = side_right _ _ _ _ _ c.index-i.ensures c.index-j.ensures c.if-i-j.false c.if-labels-j.true
 
 pub returns : goal.returns
-returns c =
-    let second = c.index-j in
-    let first = c.index-i in
-    side_above _ _ _ first.result second.result first.ensures second.ensures c.if-i-j.false c.if-labels-j.false
+returns c = side_above _ _ _ _ _ c.index-i.ensures c.index-j.ensures c.if-i-j.false c.if-labels-j.false
