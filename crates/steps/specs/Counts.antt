@@ -1,13 +1,12 @@
 -- The counts of runs as the code has them.
-use Rattle.std.specs.Prelude.{ℕ, zero, suc}
+use Rattle.std.specs.Prelude.{ℕ, zero, suc, Option, Some, None}
 use Rattle.record.specs.Walk.{Counts, missing, counts}
 use Rattle.steps.specs.declared.Raised.{Raised}
-use Rattle.steps.specs.declared.RunCounts.{RunCounts}
-use Rattle.steps.specs.declared.RunCounts.TheVariants.{Counted, Missing}
+use Rattle.steps.specs.declared.Runs.{Runs}
 
-abbrev pub end_counts : RunCounts → Counts
-end_counts (Counted below above) = counts below above
-end_counts Missing = missing
+abbrev pub end_counts : Option Runs → Counts
+end_counts (Some runs) = counts runs.below runs.above
+end_counts None = missing
 
 -- counts without the 2 that was added to each; less than none there cannot be, and a run is missing
 unfoldable pub less : (below above : ℕ) → Counts
