@@ -6,6 +6,7 @@ pub mod Orders
 pub mod Direct
 pub mod LabelList
 pub mod Corners
+pub mod Lists
 pub mod Equivalent
 pub mod SameButNames
 -- Each is decided
