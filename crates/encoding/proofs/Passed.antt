@@ -9,7 +9,8 @@ use native.Mathlib.Omega.{arith}
 use native.Mathlib.Decide.{dec_lt}
 use borrow.Author.Tests.{lt-ltb, le-ltb}
 use lib.Dec.{ltb}
-use lib.ListN.{length, get_or, set, take as takeFirst, length-set, replicate, length-replicate}
+use Rattle.std.specs.Int.{from_bool}
+use lib.ListN.{length, get_or, set, take as take_first, length-set, replicate, length-replicate}
 use Rattle.bits.specs.Bit.{bit}
 use Rattle.finite.specs.Decide.{le_or_lt, Tells, holds_tells}
 use Rattle.finite.specs.Marks.{Marks, marks_holds, marks_fails}
@@ -148,12 +149,12 @@ module _ {labels : List ℕ} {k : ℕ} {seen : List ℕ} {below above : List Lab
   unfolding triple_at
   falls_tells = subst (λ (x : ℕ). Tells (falls t) (v < x)) (sym s.last_is) (holds_tells (dec_lt v (f (suc k))))
 
-  pub third_bit : bit (ltb v last) ≡ bit (falls t)
+  pub third_bit : from_bool (ltb v last) ≡ bit (falls t)
   third_bit = go (falls t) falls_tells
     where
-      go : (b : Bool) → Tells b (v < last) → bit (ltb v last) ≡ bit b
-      go true h = ap bit (lt-ltb v last h)
-      go false h = let l : last ≤ v = omega arith in ap bit (le-ltb v last l)
+      go : (b : Bool) → Tells b (v < last) → from_bool (ltb v last) ≡ bit b
+      go true h = ap from_bool (lt-ltb v last h)
+      go false h = let l : last ≤ v = omega arith in ap from_bool (le-ltb v last l)
 
   -- what the tops of the stacks are
   near : (way : Way) → Nearest way (nearest (label_in below p) (label_in above q) way) v (z.stack way)
@@ -309,7 +310,7 @@ passed_all {labels} {k} {written = written} s e few inside = (baxter, s.partly.l
     baxter : Baxter labels
     baxter = record { each_once = each; not_barred = next_not_barred (label_at labels) (length labels) each (λ j a b. s.next j a (omega arith)) }
 
-    front : takeFirst (length (record_of labels)) written ≡ record_of labels
+    front : take_first (length (record_of labels)) written ≡ record_of labels
     front =
         let h : k ≡ length labels - 1 = omega arith in
         partly_all labels written few (subst (λ (j : ℕ). Partly (triple_at (label_at labels)) (length labels) j written) h s.partly)

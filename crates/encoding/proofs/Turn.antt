@@ -6,8 +6,8 @@ use Prim.Native.Nat.{ℕ, ◌+◌, ◌-◌, ◌*◌, ◌≤◌, ◌<◌}
 use native.Mathlib.Omega.{arith}
 use native.Mathlib.Numerals.{add-one}
 use lib.Dec.{ltb}
+use Rattle.std.specs.Int.{from_bool}
 use lib.ListN.{length, get_or, set}
-use Rattle.bits.specs.Bit.{bit}
 use Rattle.record.specs.declared.Label.{Label}
 use Rattle.record.specs.Labels.{LabelOutside}
 use Rattle.record.specs.Barred.{Baxter}
@@ -36,7 +36,7 @@ pub record Turn (labels : List ℕ) (k : ℕ) (seen : List ℕ) (below above : L
   pub away_past : PastRuns w (label_in below p) (label_in above q) → ¬ Baxter labels
   pub away_seen : mark_of seen w ≡ 1 → ¬ Baxter labels
   pub take : ¬ PastRuns w (label_in below p) (label_in above q) → mark_of seen w ≢ 1
-      → (first second third : ℕ) → first ≡ mark_of (with_label seen w) (w + 1) → second ≡ mark_of (with_label seen w) (w - 1) → third ≡ bit (ltb w last)
+      → (first second third : ℕ) → first ≡ mark_of (with_label seen w) (w + 1) → second ≡ mark_of (with_label seen w) (w - 1) → third ≡ from_bool (ltb w last)
       → Taken labels k seen below above p q last written w first second third
 
 pub turn_of_lem : {labels : List ℕ} {k : ℕ} {seen : List ℕ} {below above : List Label} {p q last : ℕ} {written : List ℕ} → Passed labels k seen below above p q last written

@@ -2,7 +2,6 @@
 #![tactic(auto)]
 
 ghost use Rattle.std.specs.Prelude.{◌≡◌, ◌+◌, ◌*◌, ◌≤◌, ◌<◌, length, replicate};
-ghost use Rattle.bits.specs.Bit.{bit};
 ghost use Rattle.finite.specs.Decide.{Tells};
 ghost use Rattle.record.specs.Labels.{LabelOutside};
 ghost use Rattle.record.specs.TripleNumber.{triple_of};
@@ -11,22 +10,12 @@ ghost use Rattle.encoding.specs.Encoded.{Encoded, PastRuns};
 
 use record::Label;
 
-// 1 where the test holds, else 0.
-fn one_if(test: bool) -> usize
-    ensures { (result ≡ bit test) × (result ≤ 1) }
-{
-    if test { 1 } else { 0 }
-}
-
 // Whether the label is past the nearest run on some side. It can be so only on the side to which it turns, and there is no need to ask
 // which side that is.
 fn past_runs(label: Label, below: Label, above: Label) -> bool
     ensures { Tells result (PastRuns label.0 below.0 above.0) }
 {
-    if label.0 < below.0 {
-        return true;
-    }
-    above.0 < label.0
+    label.0 < below.0 || above.0 < label.0
 }
 
 // How many runs lie on one side after a step: one more for a step away from that side, less one that the label is joined to.
@@ -59,9 +48,9 @@ fn set_triple(record: &mut [u8], m: usize, i: usize, triple: u8)
 // runs say how much of a stack is in use. Bits are whole words here: with bytes a turn may wait for the one before. Eight triples fill
 // three bytes, and the turns go in eights: the compiler writes the eight out, and knows the place of each triple in its bytes.
 pub fn encode(labels: &[u8], record: &mut [u8]) -> bool
-    requires fact_1 { (1 ≤ length labels.now) × (length labels.now ≤ 255) }
-    requires fact_2 { (LabelOutside labels.now → ⊥) }
-    requires fact_3 { «record».old ≡ replicate 97 0 }
+    requires count { (1 ≤ length labels.now) × (length labels.now ≤ 255) }
+    requires inside { (LabelOutside labels.now → ⊥) }
+    requires zero { «record».old ≡ replicate 97 0 }
     ensures { Encoded result labels.now «record».new }
 {
     let n = labels.len();
@@ -73,10 +62,8 @@ pub fn encode(labels: &[u8], record: &mut [u8]) -> bool
     let mut runs_above = 0;
     let mut last = Label(labels[0]);
     marks::mark(&mut seen, last.0);
-    let mut m = 0;
-    while 8 * m + 1 < n {
-        let mut i = 0;
-        while i < 8 {
+    for m in 0..(n + 6) / 8 {
+        for i in 0..8 {
             let next = 8 * m + i + 1;
             if next == n {
                 return true;
@@ -86,7 +73,7 @@ pub fn encode(labels: &[u8], record: &mut [u8]) -> bool
             if marks::mark(&mut seen, label.0) {
                 return false;
             }
-            let third_bit = one_if(label.0 < last.0);
+            let third_bit = usize::from(label.0 < last.0);
             let second_bit = marks::mark_of(&seen, at - 1);
             let first_bit = marks::mark_of(&seen, at + 1);
             let triple = triple_number(first_bit, second_bit, third_bit);
@@ -99,9 +86,7 @@ pub fn encode(labels: &[u8], record: &mut [u8]) -> bool
             runs_below = runs_after(runs_below, 1 - third_bit, second_bit);
             runs_above = runs_after(runs_above, third_bit, first_bit);
             last = label;
-            i += 1;
         }
-        m += 1;
     }
     true
 }
