@@ -7,7 +7,7 @@ use Prim.Native.Nat.{ℕ, zero, suc, ◌+◌, ◌-◌, ◌*◌, ◌/◌, ◌%◌
 use native.Mathlib.Omega.{arith}
 use lib.Dec.{T, eqb, eqb→eq, eqb_refl}
 use lib.ListN.{length, get_or}
-use Rattle.finite.specs.Decide.{eq_or_ne}
+use Rattle.finite.specs.Decide.{Tells, eq_or_ne, tells_iff, tells_not, tells_equal}
 use Rattle.finite.specs.Every.{every, every_at}
 use Rattle.finite.specs.Search.{Some}
 use Rattle.bits.specs.Bit.{bit, bit_in, bit_at}
@@ -83,7 +83,7 @@ module _ (body : List ℕ) (used : ℕ) (long : length body ≡ (used + 7) / 8) 
   abbrev spare : ℕ
   spare = 8 * length body - used
 
-  pub none_spare : get_or body last 0 < 256 → cleared (get_or body last 0) spare ≡ get_or body last 0 → ¬ Some (λ i. bit_at body i ≡ true) used (8 * length body)
+  none_spare : get_or body last 0 < 256 → cleared (get_or body last 0) spare ≡ get_or body last 0 → ¬ Some (λ i. bit_at body i ≡ true) used (8 * length body)
   none_spare fits same (i, a, b, e) = clash (at_last ∙ low_clear (get_or body last 0) spare (same_none (get_or body last 0) spare fits (omega arith) same) (omega arith) (i - 8 * last) (omega arith) (omega arith)) e
     where
       at_last : bit_at body i ≡ bit_in (get_or body last 0) (i - 8 * last)
@@ -92,7 +92,16 @@ module _ (body : List ℕ) (used : ℕ) (long : length body ≡ (used + 7) / 8) 
       clash : {x : Bool} → x ≡ false → x ≡ true → ⊥
       clash p q = let z : ◌≡◌ {A = ℕ} 0 1 = cc in omega arith
 
-  pub some_spare : get_or body last 0 < 256 → cleared (get_or body last 0) spare ≢ get_or body last 0 → Some (λ i. bit_at body i ≡ true) used (8 * length body)
+  some_spare : get_or body last 0 < 256 → cleared (get_or body last 0) spare ≢ get_or body last 0 → Some (λ i. bit_at body i ≡ true) used (8 * length body)
   some_spare fits other =
       let r = low_some (get_or body last 0) spare (other_some (get_or body last 0) spare fits (omega arith) other) (omega arith) in
       (8 * last + r.0, omega (arith, r.1), omega (arith, r.2), bit_at_byte body last r.0 r.2 ∙ r.3)
+
+  -- the comparison tells whether one is set
+  pub spare_tells : {x : ℕ} → x ≡ get_or body last 0 → x < 256 → Tells (not (eqb (cleared x spare) x)) (Some (λ i. bit_at body i ≡ true) used (8 * length body))
+  spare_tells {x} is fits =
+      let small : get_or body last 0 < 256 = omega arith in
+      tells_iff (¬ (cleared x spare ≡ x)) _ (not (eqb (cleared x spare) x))
+      (λ other. some_spare small (λ same. other (subst (λ (y : ℕ). cleared y spare ≡ y) (sym is) same)))
+      (λ set same. none_spare small (subst (λ (y : ℕ). cleared y spare ≡ y) is same) set)
+      (tells_not _ _ (tells_equal (cleared x spare) x))

@@ -1,6 +1,6 @@
 -- The counts of the walk in one word: 2^15 - 1 less the runs below, 2^15 - 1 less the runs above, of 16 bits each, and over them 1 for
 -- each step and 1 more for each fall.
-use Rattle.std.specs.Prelude.{◌⊎◌, ◌≡◌, ℕ, suc, ◌+◌, ◌*◌, ◌/◌, ◌%◌, ◌≤◌}
+use Rattle.std.specs.Prelude.{◌⊎◌, ◌≡◌, ℕ, suc, ◌+◌, ◌*◌, ◌/◌, ◌%◌, ◌≤◌, Option, Some, None}
 use Rattle.bits.specs.Bit.{bit}
 use Rattle.record.specs.Triple.{Triple}
 use Rattle.record.specs.Way.{up, down}
@@ -8,8 +8,6 @@ use Rattle.record.specs.Walk.{missing, counts, walk}
 use Rattle.record.specs.Decode.{bits_of}
 use Rattle.record.specs.Rises.{falls}
 use Rattle.steps.specs.Turn.{rises_by, falls_by}
-use Rattle.judging.specs.declared.Steps.{Steps}
-use Rattle.judging.specs.declared.Steps.TheVariants.{Tally, Missing}
 
 abbrev pub Packed : (below above steps : ℕ) → ℕ → Type 0
 Packed below above steps tally = tally + below + 65536 * above ≡ 32767 + 65536 * 32767 + 4294967296 * steps
@@ -31,6 +29,7 @@ pub record Packs (t : ℕ → Triple) (k tally : ℕ) : Type 0 where
   pub falls_few : falls t (suc k) ≤ k
   pub packed : Packed below above (k + falls t (suc k)) tally
 
-abbrev pub Walked : Steps → (ℕ → Triple) → (k : ℕ) → Type 0
-Walked (Tally tally) t k = Packs t k tally
-Walked Missing t k = walk t k ≡ missing
+-- the word that k steps leave; none where one of them lacks a run
+abbrev pub Walked : Option ℕ → (ℕ → Triple) → (k : ℕ) → Type 0
+Walked (Some tally) t k = Packs t k tally
+Walked None t k = walk t k ≡ missing

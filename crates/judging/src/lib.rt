@@ -13,7 +13,7 @@ ghost use Rattle.judging.specs.Judge.{BodyChecked, Clear, EndChecked, Tallied, J
 ghost use Rattle.judging.specs.Packed.{Row, Lacks, Packs, Walked};
 
 use record::Refusal;
-use steps::RunCounts;
+use steps::Runs;
 
 // Whether a bit after the first `used` is set. They are the low bits of the last byte.
 fn spare_bit(body: &[u8], used: usize) -> bool
@@ -24,61 +24,44 @@ fn spare_bit(body: &[u8], used: usize) -> bool
     if spare == 0 {
         return false;
     }
-    let last = steps::wide(body[body.len() - 1]);
-    if (last >> spare) << spare == last {
-        return false;
-    }
-    true
+    let last = usize::from(body[body.len() - 1]);
+    (last >> spare) << spare != last
 }
 
-// What a check of a record answers: how many rooms the record has, or why not.
-#[derive(Clone, Copy)]
-pub enum Checked {
-    Passed(usize),
-    Refused(Refusal),
-}
-
-// The checks before the walk: 9, 10, 11 and 14.
-pub fn check_body(record: &[u8]) -> Checked
+// The checks before the walk, 9, 10, 11 and 14, of a record that has so many rooms.
+pub fn check_body(record: &[u8]) -> Result<usize, Refusal>
     ensures { BodyChecked result «record».now }
 {
-    if record.len() == 0 {
-        return Checked::Refused(Refusal::NoKind);
+    if record.is_empty() {
+        return Err(Refusal::NoKind);
     }
-    let n = steps::wide(record[0]);
+    let n = usize::from(record[0]);
     if n == 0 {
-        return Checked::Refused(Refusal::NoKind);
+        return Err(Refusal::NoKind);
     }
     let used = 3 * n - 3;
     let size = (used + 7) / 8;
     let body = &record[1..];
     if body.len() < size {
-        return Checked::Refused(Refusal::ShortBody);
+        return Err(Refusal::ShortBody);
     }
     if size < body.len() {
-        return Checked::Refused(Refusal::BytesAfter);
+        return Err(Refusal::BytesAfter);
     }
     if spare_bit(body, used) {
-        return Checked::Refused(Refusal::SpareBit);
+        return Err(Refusal::SpareBit);
     }
-    Checked::Passed(n)
+    Ok(n)
 }
 
-// The checks after the walk: 12 and 13.
-pub fn check_end(counts: RunCounts, n: usize) -> Checked
-    ensures { EndChecked result (end_counts counts) n }
+// The checks after the walk, 12 and 13, of a record that has n rooms.
+pub fn check_end(end: Option<Runs>, n: usize) -> Result<usize, Refusal>
+    ensures { EndChecked result (end_counts end) n }
 {
-    match counts {
-        RunCounts::Missing => Checked::Refused(Refusal::MissingRun),
-        RunCounts::Counted(below, above) => {
-            if below != 0 {
-                return Checked::Refused(Refusal::SeveralRuns);
-            }
-            if above != 0 {
-                return Checked::Refused(Refusal::SeveralRuns);
-            }
-            Checked::Passed(n)
-        }
+    match end {
+        None => Err(Refusal::MissingRun),
+        Some(runs) if runs.below == 0 && runs.above == 0 => Ok(n),
+        Some(_) => Err(Refusal::SeveralRuns),
     }
 }
 
@@ -110,104 +93,81 @@ fn row(triple: usize) -> usize
 fn lacks(tally: usize) -> bool
     ensures { Tells result (Lacks tally) }
 {
-    if 32768 <= tally % 65536 {
-        return true;
-    }
-    if 32768 <= tally / 65536 % 65536 {
-        return true;
-    }
-    false
+    32768 <= tally % 65536 || 32768 <= tally / 65536 % 65536
 }
 
-// The word after some steps of the walk; or a triple needs a run that is missing.
-#[derive(Clone, Copy)]
-enum Steps {
-    Tally(usize),
-    Missing,
-}
-
-// Eight steps, from triple 8m on: their triples come from three bytes at once.
-fn eight_steps(body: &[u8], m: usize, before: usize) -> Steps
+// Eight steps, from triple 8m on: their triples come from three bytes at once. The word after them; none where a triple needs a run that
+// is missing.
+fn eight_steps(body: &[u8], m: usize, before: usize) -> Option<usize>
     requires { (m < 32) × (3 * m < length body.now) × (length body.now ≤ 96) × Packs (triple_in body.now) (8 * m) before }
     ensures { Walked result (triple_in body.now) (8 * m + 8) }
 {
     let word = bits::eight_groups(body, m);
     let mut tally = before;
-    let mut i = 0;
-    while i < 8 {
+    for i in 0..8 {
         tally += row(bits::group_of_word(word, i));
         if lacks(tally) {
-            return Steps::Missing;
+            return None;
         }
-        i += 1;
     }
-    Steps::Tally(tally)
+    Some(tally)
 }
 
 // The walk over so many words of eight triples.
-fn walk_words(body: &[u8], words: usize) -> Steps
+fn walk_words(body: &[u8], words: usize) -> Option<usize>
     requires { (words ≤ 32) × (3 * words ≤ length body.now + 2) × (length body.now ≤ 96) }
     ensures { Walked result (triple_in body.now) (8 * words) }
 {
     let mut tally = 32767 + 32767 * ABOVE;
-    let mut m = 0;
-    while m < words {
-        let Steps::Tally(next) = eight_steps(body, m, tally) else {
-            return Steps::Missing;
-        };
-        tally = next;
-        m += 1;
+    for m in 0..words {
+        tally = eight_steps(body, m, tally)?;
     }
-    Steps::Tally(tally)
+    Some(tally)
 }
 
-// What the walk gives where no labels are read: the counts of runs at its end, and the falls.
+// Where the walk without labels ends: the runs beside the last one, and how many falls there were.
 #[derive(Clone, Copy)]
 struct Tally {
-    counts: RunCounts,
+    runs: Runs,
     falls: usize,
 }
 
-// The walk without labels, over whole words. The bits past the last triple are 0, as the checks before the walk saw to: each triple
-// there would be one more run below, and no fall.
-fn count_walk(body: &[u8], n: usize) -> Tally
+// The walk without labels, over whole words; none where a run is missing. The bits past the last triple are 0, as the checks before the
+// walk saw to: each triple there would be one more run below, and no fall.
+fn count_walk(body: &[u8], n: usize) -> Option<Tally>
     requires { (1 ≤ n) × (n ≤ 255) × (length body.now ≡ body_length n) × Clear body.now (3 * n - 3) }
     ensures { Tallied (triple_in body.now) n result }
 {
     let words = (n + 6) / 8;
-    let Steps::Tally(tally) = walk_words(body, words) else {
-        return Tally {
-            counts: RunCounts::Missing,
-            falls: 0,
-        };
-    };
+    let tally = walk_words(body, words)?;
     let past = 8 * words + 1 - n;
-    Tally {
-        counts: RunCounts::Counted(32767 - tally % 65536 - past, 32767 - tally / 65536 % 65536),
+    Some(Tally {
+        runs: Runs {
+            below: 32767 - tally % 65536 - past,
+            above: 32767 - tally / 65536 % 65536,
+        },
         falls: tally / STEP - 8 * words,
-    }
+    })
 }
 
-// What judging a record answers: how many rooms it has and how many falls; or why not.
+// How many rooms an accepted record has, and how many falls.
 #[derive(Clone, Copy)]
-pub enum Judged {
-    Accepted(usize, usize),
-    Refused(Refusal),
+pub struct Judged {
+    pub rooms: usize,
+    pub falls: usize,
 }
 
 // Judges a record without reading its labels.
-pub fn judge(record: &[u8]) -> Judged
+pub fn judge(record: &[u8]) -> Result<Judged, Refusal>
     ensures { Judges result «record».now }
 {
-    match check_body(record) {
-        Checked::Refused(refusal) => Judged::Refused(refusal),
-        Checked::Passed(n) => {
-            let walked = count_walk(&record[1..], n);
-            let counts = walked.counts;
-            match check_end(counts, n) {
-                Checked::Refused(refusal) => Judged::Refused(refusal),
-                Checked::Passed(rooms) => Judged::Accepted(rooms, walked.falls),
-            }
-        }
-    }
+    let n = check_body(record)?;
+    let Some(tally) = count_walk(&record[1..], n) else {
+        return Err(Refusal::MissingRun);
+    };
+    let rooms = check_end(Some(tally.runs), n)?;
+    Ok(Judged {
+        rooms,
+        falls: tally.falls,
+    })
 }

@@ -5,6 +5,7 @@ use mathlib.Core.Logic.{inl, inr}
 use mathlib.Core.Path.{◌≡◌, sym, ap, subst₂, ◌∙◌}
 use Prim.Native.Nat.{ℕ, ◌-◌, ◌*◌, ◌<◌}
 use native.Mathlib.Omega.{arith}
+use Rattle.std.proofs.lemmas.Bool.Decides.{nat_tests}
 use lib.ListN.{length}
 use Rattle.finite.specs.Search.{Some}
 use Rattle.bits.specs.Bit.{bit_at}
@@ -15,24 +16,24 @@ use Rattle.judging.specs.Passed.{body_is}
 use Rattle.judging.proofs.check_body.Goals as goal
 use Rattle.judging.proofs.check_body.Goals.{Else-body-size, Else-n-eq0, Else-size-body}
 
-kind-is : (e : Else-n-eq0) → e.wide-n.result ≡ kind_of e.args.«record».now
-kind-is e = e.wide-n.ensures.0
+kind-is : (e : Else-n-eq0) → e.from-n.result ≡ kind_of e.args.«record».now
+kind-is e = e.from-n.ensures
 
 -- the record passes 9, 10 and 11
 has_kind : (e : Else-n-eq0) → ¬ NoKind e.args.«record».now
-has_kind e h = elim h [ inl z ↦ e.if-record-eq0.false z | inr z ↦ e.if-n-eq0.false (kind-is e ∙ z) ]
+has_kind e h = elim h [ inl z ↦ absurd (grind (arith, nat_tests)) | inr z ↦ e.if-n-eq0.false (kind-is e ∙ z) ]
 
 not_short : (e : Else-body-size) → ¬ ShortBody e.args.«record».now
-not_short e h = omega (arith, e.if-body-size.false, ap length (body_is e.args.«record».now), e.wide-n.ensures.0)
+not_short e h = omega (arith, e.if-body-size.false, ap length (body_is e.args.«record».now), e.from-n.ensures)
 
 not-long : (e : Else-size-body) → ¬ BytesAfter e.args.«record».now
-not-long e h = omega (arith, e.if-size-body.false, ap length (body_is e.args.«record».now), e.wide-n.ensures.0)
+not-long e h = omega (arith, e.if-size-body.false, ap length (body_is e.args.«record».now), e.from-n.ensures)
 
-pub returns-then-record-eq0 : goal.returns-then-record-eq0
-returns-then-record-eq0 c = no_kind (inl c.if-record-eq0.true)
+pub returns-then-is_empty : goal.returns-then-is_empty
+returns-then-is_empty c = no_kind (inl (grind (arith, nat_tests)))
 
 pub returns-then-n-eq0 : goal.returns-then-n-eq0
-returns-then-n-eq0 c = no_kind (inr (sym c.wide-n.ensures.0 ∙ c.if-n-eq0.true))
+returns-then-n-eq0 c = no_kind (inr (sym c.from-n.ensures ∙ c.if-n-eq0.true))
 
 pub returns-then-body-size : goal.returns-then-body-size
 returns-then-body-size c =

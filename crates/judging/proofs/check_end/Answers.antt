@@ -1,13 +1,13 @@
 -- `judging::check_end` meets its contract: a case each.
-use native.Mathlib.Omega.{arith}
+use Rattle.std.proofs.Common.{arith}
 use Rattle.judging.specs.Judge.{missing_run, several_runs}
 use Rattle.judging.proofs.check_end.Goals as goal
 
-pub returns-then-below-ne0 : goal.returns-then-below-ne0
-returns-then-below-ne0 c = rw c.in-Counted.is (several_runs (λ z. z) (omega (arith, c.if-below-ne0.true)))
+pub returns-in-None : goal.returns-in-None
+returns-in-None c = rw c.in-None.is (missing_run tt)
 
-pub returns-then-above-ne0 : goal.returns-then-above-ne0
-returns-then-above-ne0 c = rw c.in-Counted.is (several_runs (λ z. z) (omega (arith, c.if-above-ne0.true)))
+pub returns-in-Some-2 : goal.returns-in-Some-2
+returns-in-Some-2 c = rw c.in-Some.is (several_runs (λ z. z) (omega (arith, c.if-runs-eq0-2.false)))
 
-pub returns-in-Missing : goal.returns-in-Missing
-returns-in-Missing c = rw c.in-Missing.is (missing_run tt)
+pub returns-in-Some-2-2 : goal.returns-in-Some-2-2
+returns-in-Some-2-2 c = rw c.in-Some.is (several_runs (λ z. z) (omega (arith, c.if-runs-eq0.false)))

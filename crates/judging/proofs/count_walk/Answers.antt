@@ -10,7 +10,7 @@ use Rattle.judging.specs.Packed.{Packs}
 use Rattle.judging.proofs.Packing.{low_is, high_is, top_is}
 use Rattle.judging.proofs.Past.{ZeroPast, zero_past, missing_before, counts_before, falls_past}
 use Rattle.judging.proofs.count_walk.Goals as goal
-use Rattle.judging.proofs.count_walk.Goals.{In-Tally}
+use Rattle.judging.proofs.count_walk.Goals.{In_ok-tally}
 
 -- how many triples of 000 there are after those of n rooms, in whole words of eight
 abbrev past : ℕ → ℕ
@@ -60,21 +60,21 @@ module _ {t : ℕ → Triple} {n tally : ℕ} (some : 1 ≤ n) (few : n ≤ 255)
   fallen : tally / 4294967296 - 8 * ((n + 6) / 8) ≡ falls t n
   fallen = omega (arith, top)
 
-zero-on : (c : In-Tally) → ZeroPast (triple_in c.args.body.now) (c.args.n - 1)
+zero-on : (c : In_ok-tally) → ZeroPast (triple_in c.args.body.now) (c.args.n - 1)
 zero-on c = zero_past c.args.body.now c.args.n c.requires.0 c.requires.3
 
-pub returns-in_default : goal.returns-in_default
-returns-in_default c =
+pub returns-in_err-tally : goal.returns-in_err-tally
+returns-in_err-tally c =
     let n = c.args.n in
     let t = triple_in c.args.body.now in
-    let gone = missing_before t (n - 1) (zero_past c.args.body.now n c.requires.0 c.requires.3) (past n) (ap (walk t) (sym (whole n c.requires.0)) ∙ c.in_default.ensures) in
-    record { walked = sym gone; falls_are = λ some. absurd (some tt) }
+    let whole = ap (walk t) (sym (whole n c.requires.0)) ∙ c.in_err-tally.ensures in
+    rw c.from_residual.ensures (missing_before t (n - 1) (zero_past c.args.body.now n c.requires.0 c.requires.3) (past n) whole)
 
 pub overflow_sub-result-2 : goal.overflow_sub-result-2
-overflow_sub-result-2 c = omega (arith, low-enough c.requires.0 c.requires.1 (zero-on c) c.in-Tally.ensures)
+overflow_sub-result-2 c = omega (arith, low-enough c.requires.0 c.requires.1 (zero-on c) c.in_ok-tally.ensures)
 
 pub returns : goal.returns
-returns c = record {
-  walked = counted c.requires.0 c.requires.1 (zero-on c) c.in-Tally.ensures;
-  falls_are = λ some. fallen c.requires.0 c.requires.1 (zero-on c) c.in-Tally.ensures;
-}
+returns c =
+    let zeros = zero-on c in
+    let packs = c.in_ok-tally.ensures in
+    (sym (counted c.requires.0 c.requires.1 zeros packs), fallen c.requires.0 c.requires.1 zeros packs)

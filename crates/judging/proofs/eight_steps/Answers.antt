@@ -29,13 +29,13 @@ row_at c =
 pub returns-then-lacks : goal.returns-then-lacks
 returns-then-lacks c =
     let at = (goal.at.returns-then-lacks c).After-row-tally in
-    let gone = packs_lacks c.loop-i.invariant.0 (short at) c.row-tally.result (row_at at) (told_true (Lacks _) _ c.if-lacks.true c.lacks.ensures) in
+    let gone = packs_lacks c.loop-i.invariant (short at) c.row-tally.result (row_at at) (told_true (Lacks _) _ c.if-lacks.true c.lacks.ensures) in
     let rest : suc (8 * c.args.m + c.loop-i.i) + (8 - suc c.loop-i.i) ≡ 8 * c.args.m + 8 = omega (arith, c.loop-i-test.true) in
     subst (λ (k : ℕ). walk (triples at) k ≡ missing) rest (missing_on (triples at) (suc (8 * c.args.m + c.loop-i.i)) (8 - suc c.loop-i.i) gone)
 
 pub loop-i-preserved : goal.loop-i-preserved
 loop-i-preserved c =
     let at = (goal.at.loop-i-preserved c).After-row-tally in
-    let next = packs_next c.loop-i.invariant.0 (short at) c.row-tally.result (row_at at) (told_false (Lacks _) _ c.if-lacks.false c.lacks.ensures) in
+    let next = packs_next c.loop-i.invariant (short at) c.row-tally.result (row_at at) (told_false (Lacks _) _ c.if-lacks.false c.lacks.ensures) in
     let one : suc (8 * c.args.m + c.loop-i.i) ≡ 8 * c.args.m + (c.loop-i.i + 1) = omega arith in
-    (subst (λ (k : ℕ). Packs (triples at) k (c.loop-i.tally + c.row-tally.result)) one next, omega (arith, c.loop-i-test.true))
+    subst (λ (k : ℕ). Packs (triples at) k (c.loop-i.tally + c.row-tally.result)) one next
