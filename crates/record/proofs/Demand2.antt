@@ -1,6 +1,6 @@
 -- Demand 2 for label lists and triples: "a record gives the only Baxter permutation that has it"; "Every Baxter permutation of 1 to
 -- 255 labels is accepted, given long enough output slices, and no other list is."
-use Rattle.std.specs.Prelude.{◌≡◌, refl, ◌≢◌, ◌↔◌, ℕ, zero, suc, ◌+◌, ◌-◌, ◌*◌, ◌/◌, ◌%◌, ◌≤◌, ◌<◌, length, drop}
+use Rattle.std.specs.Prelude.{◌≡◌, refl, ◌≢◌, ◌↔◌, ℕ, zero, suc, ◌+◌, ◌-◌, ◌*◌, ◌/◌, ◌%◌, ◌≤◌, ◌<◌, length, drop, Result, Ok, Err}
 use Rattle.std.proofs.Common.{sym, subst, ◌∙◌, inl, inr, arith, lt-ltb, ext_get_or}
 use Rattle.std.proofs.Math.Path.{ap}
 use mathlib.Core.List.{List}
@@ -22,8 +22,6 @@ use Rattle.record.proofs.NextTo.{not_barred_next}
 use Rattle.record.proofs.Forward.{accepted}
 use Rattle.record.proofs.Backward.{length_decode, decode_at, decoded_each, decoded_triple, decoded_not_barred, own_label}
 use Rattle.record.specs.declared.Refusal.{Refusal}
-use Rattle.record.specs.declared.LabelsAnswer.{LabelsAnswer}
-use Rattle.record.specs.declared.LabelsAnswer.TheVariants.{Wrote, Refused}
 
 -- the triples of positions 2 to n of a label list are these
 abbrev pub HasTriples : (labels : List ℕ) → (ℕ → Triple) → Type 0
@@ -177,27 +175,27 @@ baxter→sound labels b some few = record {
 }
 
 -- a record that is written is that of a sound list, and its length is the answer
-wrote_sound : (labels : List ℕ) (capacity : ℕ) {size : ℕ} → labels_answer labels capacity ≡ Wrote size
+wrote_sound : (labels : List ℕ) (capacity : ℕ) {size : ℕ} → labels_answer labels capacity ≡ Ok size
     → Sound labels × (size ≡ length (record_of labels))
 wrote_sound labels capacity {size} e = go (demand1_labels_cause labels capacity) e
   where
-    never : {refusal : Refusal} → Refused refusal ≡ Wrote size → Sound labels × (size ≡ length (record_of labels))
+    never : {refusal : Refusal} → Err refusal ≡ Ok size → Sound labels × (size ≡ length (record_of labels))
     never e = absurd (let z : ◌≡◌ {A = ℕ} 0 1 = cc in omega arith)
 
-    go : {a : LabelsAnswer} → LabelsSays labels capacity a → a ≡ Wrote size → Sound labels × (size ≡ length (record_of labels))
+    go : {a : Result ℕ Refusal} → LabelsSays labels capacity a → a ≡ Ok size → Sound labels × (size ≡ length (record_of labels))
     go (says.refused cause) e = never e
     go (says.short all s) e = never e
     go (says.wrote all s) e = (all, cc)
 
 -- the length answered is at most 97
-pub wrote_at_most_97 : (labels : List ℕ) (capacity size : ℕ) → labels_answer labels capacity ≡ Wrote size → size ≤ 97
+pub wrote_at_most_97 : (labels : List ℕ) (capacity size : ℕ) → labels_answer labels capacity ≡ Ok size → size ≤ 97
 wrote_at_most_97 labels capacity size e =
     let w = wrote_sound labels capacity e in
     omega (arith, w.1, record_at_most_97 labels (sound→baxter labels w.0).2)
 
 -- "Every Baxter permutation of 1 to 255 labels is accepted, given long enough output slices, and no other list is."
 pub demand2_accepts_baxter : (labels : List ℕ) (capacity : ℕ) → length (record_of labels) ≤ capacity
-    → (labels_answer labels capacity ≡ Wrote (length (record_of labels))) ↔ (Baxter labels × (1 ≤ length labels) × (length labels ≤ 255))
+    → (labels_answer labels capacity ≡ Ok (length (record_of labels))) ↔ (Baxter labels × (1 ≤ length labels) × (length labels ≤ 255))
 demand2_accepts_baxter labels capacity room = (
   λ e. sound→baxter labels (wrote_sound labels capacity e).0,
   λ (b, some, few). sym (demand1_labels_answer labels capacity (says.wrote (baxter→sound labels b some few) (λ h. omega arith))),

@@ -1,7 +1,8 @@
 -- The starred worked plans of the sheet, proved by computation from the definitions.
-use Rattle.std.specs.Prelude.{◌≡◌, refl, List, [], ◌∷◌, ℕ}
+use Rattle.std.specs.Prelude.{◌≡◌, refl, List, [], ◌∷◌, ℕ, Result, Ok, Err}
 use Rattle.finite.specs.Table.{table}
 use Rattle.bits.specs.Bit.{value, byte_of, pack, bit_at, bit_in}
+use Rattle.record.specs.declared.Refusal.{Refusal}
 use Rattle.record.specs.Triple.{triple_at}
 use Rattle.record.specs.Record.{body_bit, record_of}
 use Rattle.record.specs.Causes.{dec_count, dec_outside, dec_twice, dec_barred}
@@ -10,8 +11,6 @@ use Rattle.record.specs.Walk.{walk, step}
 use Rattle.record.specs.Read.{labels_of}
 use Rattle.record.specs.Checked.{dec_no_kind, dec_spare, dec_missing, dec_several, checked}
 use Rattle.record.specs.Answer.{labels_answer}
-use Rattle.record.specs.declared.LabelsAnswer.{LabelsAnswer}
-use Rattle.record.specs.declared.LabelsAnswer.TheVariants.{Wrote, Refused}
 
 -- what is given and what is answered
 pub data Given : Type 0 where
@@ -27,9 +26,9 @@ pub data Shown : Type 0 where
 abbrev pub answer : Given → Shown
 answer (labels l) = show (labels_answer l 97)
   where
-    show : LabelsAnswer → Shown
-    show (Wrote size) = bytes (record_of l)
-    show (Refused r) = refusal (number_of r)
+    show : Result ℕ Refusal → Shown
+    show (Ok size) = bytes (record_of l)
+    show (Err r) = refusal (number_of r)
 answer (bytes_in b) = checked (λ r. refusal (number_of r)) b (list (labels_of b))
 
 pub record Plan : Type 0 where

@@ -18,43 +18,43 @@ impl Label {
     pub fn index(self) -> usize
         ensures { (result ≡ self.0) × (result ≤ 255) }
     {
-        self.0 as usize
+        usize::from(self.0)
     }
 }
 
-// Why a call is refused: a row of the sheet's table each, in the table's order.
-#[derive(Clone, Copy)]
+// Why a call is refused, with the sheet's number: a row of its table each, in the table's order.
+#[derive(Clone, Copy, Debug, PartialEq, Eq)]
 pub enum Refusal {
-    Count,
-    RoomSize,
-    Overlap,
-    Uncovered,
-    FourMeet,
-    LabelOutside,
-    LabelTwice,
-    BarredPattern,
-    NoKind,
-    ShortBody,
-    BytesAfter,
-    MissingRun,
-    SeveralRuns,
-    SpareBit,
-    ShortOutput,
-    PositionOutside,
-    SamePosition,
-    TextForm,
-    NotSlicing,
-    NameTwice,
-    TooLong,
-    BeyondBook,
-    OtherSummary,
-    OtherLength,
-    ZeroSize,
-    BrokenRelation,
-    EmptyGroup,
-    BadMove,
-    OnlyRoom,
-    NotCounted,
+    Count = 1,
+    RoomSize = 2,
+    Overlap = 3,
+    Uncovered = 4,
+    FourMeet = 5,
+    LabelOutside = 6,
+    LabelTwice = 7,
+    BarredPattern = 8,
+    NoKind = 9,
+    ShortBody = 10,
+    BytesAfter = 11,
+    MissingRun = 12,
+    SeveralRuns = 13,
+    SpareBit = 14,
+    ShortOutput = 15,
+    PositionOutside = 16,
+    SamePosition = 17,
+    TextForm = 18,
+    NotSlicing = 19,
+    NameTwice = 20,
+    TooLong = 21,
+    BeyondBook = 22,
+    OtherSummary = 23,
+    OtherLength = 24,
+    ZeroSize = 25,
+    BrokenRelation = 26,
+    EmptyGroup = 27,
+    BadMove = 28,
+    OnlyRoom = 29,
+    NotCounted = 30,
 }
 
 impl Refusal {
@@ -62,44 +62,6 @@ impl Refusal {
     pub fn number(self) -> u8
         ensures { result ≡ number_of self }
     {
-        match self {
-            Refusal::Count => 1,
-            Refusal::RoomSize => 2,
-            Refusal::Overlap => 3,
-            Refusal::Uncovered => 4,
-            Refusal::FourMeet => 5,
-            Refusal::LabelOutside => 6,
-            Refusal::LabelTwice => 7,
-            Refusal::BarredPattern => 8,
-            Refusal::NoKind => 9,
-            Refusal::ShortBody => 10,
-            Refusal::BytesAfter => 11,
-            Refusal::MissingRun => 12,
-            Refusal::SeveralRuns => 13,
-            Refusal::SpareBit => 14,
-            Refusal::ShortOutput => 15,
-            Refusal::PositionOutside => 16,
-            Refusal::SamePosition => 17,
-            Refusal::TextForm => 18,
-            Refusal::NotSlicing => 19,
-            Refusal::NameTwice => 20,
-            Refusal::TooLong => 21,
-            Refusal::BeyondBook => 22,
-            Refusal::OtherSummary => 23,
-            Refusal::OtherLength => 24,
-            Refusal::ZeroSize => 25,
-            Refusal::BrokenRelation => 26,
-            Refusal::EmptyGroup => 27,
-            Refusal::BadMove => 28,
-            Refusal::OnlyRoom => 29,
-            Refusal::NotCounted => 30,
-        }
+        self as u8
     }
-}
-
-// What Labels in answers: the record's length, or why not.
-#[derive(Clone, Copy)]
-pub enum LabelsAnswer {
-    Wrote(usize),
-    Refused(Refusal),
 }
