@@ -1,7 +1,7 @@
 -- A search that goes through a whole range: what is told of the numbers so far, and of one more.
 use mathlib.Core.Bool.{Bool, true, false}
 use mathlib.Core.Logic.{◌⊎◌, inl, inr}
-use mathlib.Core.Path.{◌≡◌, sym, subst, ◌∙◌}
+use mathlib.Core.Path.{◌≡◌, sym, subst}
 use Prim.Native.Nat.{ℕ, suc, ◌+◌}
 use native.Mathlib.Omega.{arith}
 use Rattle.finite.specs.Decide.{Tells, eq_or_ne}
@@ -17,9 +17,7 @@ module _ (P : ℕ → Type 0) (i : ℕ) where
   found_before n true (j, a, b, p) = (j, a, omega arith, p)
   found_before n false t = λ (j, a, b, p). elim (eq_or_ne j (suc i)) [ inl e ↦ n (subst P e p) | inr e ↦ t (j, a, omega arith, p) ]
 
-  -- two tests that set a mark where they hold, as the code leaves it
-  pub found_by_two : (A B : Type 0) → (A → P (suc i)) → (B → P (suc i)) → (¬ A → ¬ B → ¬ P (suc i)) → (old middle new : Bool) → Tells old (Some P 1 (suc i))
-      → (A × (middle ≡ true)) ⊎ (¬ A × (middle ≡ old)) → (B × (new ≡ true)) ⊎ (¬ B × (new ≡ middle)) → Tells new (Some P 1 (suc (i + 1)))
-  found_by_two A B f g h old middle new t first (inl (b, e)) = subst (λ (x : Bool). Tells x (Some P 1 (suc (i + 1)))) (sym e) (found_here (g b))
-  found_by_two A B f g h old middle new t (inl (a, d)) (inr (nb, e)) = subst (λ (x : Bool). Tells x (Some P 1 (suc (i + 1)))) (sym (e ∙ d)) (found_here (f a))
-  found_by_two A B f g h old middle new t (inr (na, d)) (inr (nb, e)) = subst (λ (x : Bool). Tells x (Some P 1 (suc (i + 1)))) (sym (e ∙ d)) (found_before (h na nb) old t)
+  -- a mark that is set where i + 1 has it, as the code leaves it
+  pub found_by : (old new : Bool) → Tells old (Some P 1 (suc i)) → (P (suc i) × (new ≡ true)) ⊎ (¬ P (suc i) × (new ≡ old)) → Tells new (Some P 1 (suc (i + 1)))
+  found_by old new t (inl (p, e)) = subst (λ (x : Bool). Tells x (Some P 1 (suc (i + 1)))) (sym e) (found_here p)
+  found_by old new t (inr (n, e)) = subst (λ (x : Bool). Tells x (Some P 1 (suc (i + 1)))) (sym e) (found_before n old t)

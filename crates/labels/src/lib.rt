@@ -8,33 +8,19 @@ ghost use Rattle.record.specs.Labels.{LabelOutside, LabelTwice};
 ghost use Rattle.record.specs.Answer.{LabelsIn};
 ghost use Rattle.labels.specs.Verdict.{verdict_of};
 
-use record::{LabelsAnswer, Refusal};
-
-// What the causes of a label list give: none of them holds, or the first one's refusal.
-#[derive(Clone, Copy)]
-pub enum Verdict {
-    Sound,
-    Refused(Refusal),
-}
+use record::Refusal;
 
 // Whether some label is not one of 1 to n. No early end: the whole list costs less than the tests.
 pub fn outside(labels: &[u8]) -> bool
     requires { length labels.now ≤ 255 }
     ensures { Tells result (LabelOutside labels.now) }
 {
-    let n = labels.len();
-    let most = n as u8;
+    let most = labels.len() as u8;
     let mut found = false;
-    let mut i = 0;
-    while i < n {
-        let label = labels[i];
-        if label == 0 {
+    for &label in labels {
+        if label == 0 || most < label {
             found = true;
         }
-        if most < label {
-            found = true;
-        }
-        i += 1;
     }
     found
 }
@@ -44,55 +30,47 @@ fn twice(labels: &[u8]) -> bool
     ensures { Tells result (LabelTwice labels.now) }
 {
     let mut seen = [0u8; 32];
-    let n = labels.len();
-    let mut i = 0;
-    while i < n {
-        if marks::mark(&mut seen, labels[i]) {
+    for &label in labels {
+        if marks::mark(&mut seen, label) {
             return true;
         }
-        i += 1;
     }
     false
 }
 
 // The record of a label list, from the front of the record slice, and its length; or the refusal, and the slice as it was. The record
 // is made in bytes of its own and copied last, since only the whole pass tells that a list is good.
-pub fn labels_in(labels: &[u8], record: &mut [u8]) -> LabelsAnswer
+pub fn labels_in(labels: &[u8], record: &mut [u8]) -> Result<usize, Refusal>
     ensures { LabelsIn labels.now «record».old result «record».new }
 {
     let n = labels.len();
-    if n == 0 {
-        return LabelsAnswer::Refused(Refusal::Count);
-    }
-    if 255 < n {
-        return LabelsAnswer::Refused(Refusal::Count);
+    if n == 0 || 255 < n {
+        return Err(Refusal::Count);
     }
     if outside(labels) {
-        return LabelsAnswer::Refused(Refusal::LabelOutside);
+        return Err(Refusal::LabelOutside);
     }
     let mut written = [0u8; 97];
     if !encoding::encode(labels, &mut written) {
         if twice(labels) {
-            return LabelsAnswer::Refused(Refusal::LabelTwice);
+            return Err(Refusal::LabelTwice);
         }
-        return LabelsAnswer::Refused(Refusal::BarredPattern);
+        return Err(Refusal::BarredPattern);
     }
     let size = 1 + (3 * n - 3 + 7) / 8;
     if record.len() < size {
-        return LabelsAnswer::Refused(Refusal::ShortOutput);
+        return Err(Refusal::ShortOutput);
     }
     record[..size].copy_from_slice(&written[..size]);
-    LabelsAnswer::Wrote(size)
+    Ok(size)
 }
 
 // The verdict on a label list, for calls that take labels in another form. The causes are looked for by Labels in and nowhere else:
 // its answer, with room for the longest record, tells the verdict.
-pub fn judge(labels: &[u8]) -> Verdict
+pub fn judge(labels: &[u8]) -> Result<(), Refusal>
     ensures { result ≡ verdict_of labels.now }
 {
     let mut record = [0u8; 97];
-    match labels_in(labels, &mut record) {
-        LabelsAnswer::Wrote(_) => Verdict::Sound,
-        LabelsAnswer::Refused(refusal) => Verdict::Refused(refusal),
-    }
+    labels_in(labels, &mut record)?;
+    Ok(())
 }

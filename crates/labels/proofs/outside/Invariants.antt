@@ -1,6 +1,6 @@
 use mathlib.Core.List.{List}
 use mathlib.Core.Logic.{◌⊎◌}
-use Prim.Native.Nat.{ℕ, suc, ◌-◌, ◌≤◌, ◌<◌}
+use Prim.Native.Nat.{ℕ, suc, ◌<◌}
 use lib.ListN.{length}
 use Rattle.finite.specs.Decide.{Tells}
 use Rattle.finite.specs.Search.{Some}
@@ -11,8 +11,5 @@ use Rattle.labels.proofs.outside.Given as goal
 abbrev pub OutsideAt : List ℕ → ℕ → Type 0
 OutsideAt labels j = (label_at labels j < 1) ⊎ (length labels < label_at labels j)
 
-abbrev pub invariant-loop-i : goal.invariant-loop-i
-invariant-loop-i l = (l.i ≤ length l.labels) × Tells l.found (Some (OutsideAt l.labels) 1 (suc l.i))
-
-abbrev pub decreases-loop-i : goal.decreases-loop-i
-decreases-loop-i l = length l.labels - l.i
+abbrev pub invariant-loop-label : goal.invariant-loop-label
+invariant-loop-label l = Tells l.found (Some (OutsideAt l.labels) 1 (suc l.label-index))

@@ -25,25 +25,25 @@ seen_more : (labels seen after : List ℕ) (i : ℕ) → seen ≡ seen_of labels
 unfolding seen_after
 seen_more labels seen after i e f = rw (add-one i) (f ∙ ap (λ (seen : List ℕ). with_label seen (get_or labels i 0)) e)
 
-pub loop-i-init : goal.loop-i-init
+pub loop-label-init : goal.loop-label-init
 unfolding seen_after
-loop-i-init c = (omega arith, refl, λ (j, a, b, t). omega arith)
+loop-label-init c = (refl, λ (j, a, b, t). omega arith)
 
 pub mark-requires : goal.mark-requires
-mark-requires c = ap length c.loop-i.invariant.1 ∙ seen_long _ _
+mark-requires c = ap length c.loop-label.invariant.0 ∙ seen_long _ _
 
 pub returns-then-mark : goal.returns-then-mark
 returns-then-mark c =
-    let l = c in
-    let a = l.args.labels.now in
-    (suc l.loop-i.i, omega arith, omega arith, marks_holds (again a l.loop-i.seen l.loop-i.i l.loop-i.invariant.1) (told c.if-mark.true c.mark.ensures.was))
+    let labels = c.args.labels.now in
+    let i = c.loop-label.label-index in
+    let marked = again labels c.loop-label.seen i c.loop-label.invariant.0 in
+    (suc i, omega arith, omega (arith, c.loop-label-test.true), marks_holds marked (told c.if-mark.true c.mark.ensures.was))
 
-pub loop-i-preserved : goal.loop-i-preserved
-loop-i-preserved c =
-    let l = c in
-    let a = l.args.labels.now in (
-      omega arith,
-      seen_more a l.loop-i.seen _ l.loop-i.i l.loop-i.invariant.1 c.mark.ensures.is,
-      found_before (TwiceAt a) l.loop-i.i
-          (marks_fails (again a l.loop-i.seen l.loop-i.i l.loop-i.invariant.1) (told_not c.if-mark.false c.mark.ensures.was)) false l.loop-i.invariant.2,
+pub loop-label-preserved : goal.loop-label-preserved
+loop-label-preserved c =
+    let labels = c.args.labels.now in
+    let i = c.loop-label.label-index in
+    let marked = again labels c.loop-label.seen i c.loop-label.invariant.0 in (
+      seen_more labels c.loop-label.seen _ i c.loop-label.invariant.0 c.mark.ensures.is,
+      found_before (TwiceAt labels) i (marks_fails marked (told_not c.if-mark.false c.mark.ensures.was)) false c.loop-label.invariant.1,
     )

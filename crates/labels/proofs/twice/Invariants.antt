@@ -1,7 +1,6 @@
 use mathlib.Core.List.{List}
 use mathlib.Core.Path.{◌≡◌}
-use Prim.Native.Nat.{ℕ, suc, ◌-◌, ◌≤◌}
-use lib.ListN.{length}
+use Prim.Native.Nat.{ℕ, suc}
 use Rattle.finite.specs.Search.{Some}
 use Rattle.record.specs.Labels.{label_at}
 use Rattle.record.specs.Triple.{Earlier}
@@ -12,8 +11,5 @@ use Rattle.labels.proofs.twice.Given as goal
 abbrev pub TwiceAt : List ℕ → ℕ → Type 0
 TwiceAt labels j = Earlier (label_at labels) (label_at labels j) j
 
-abbrev pub invariant-loop-i : goal.invariant-loop-i
-invariant-loop-i l = (l.i ≤ length l.labels) × (l.seen ≡ seen_of l.labels l.i) × ¬ Some (TwiceAt l.labels) 1 (suc l.i)
-
-abbrev pub decreases-loop-i : goal.decreases-loop-i
-decreases-loop-i l = length l.labels - l.i
+abbrev pub invariant-loop-label : goal.invariant-loop-label
+invariant-loop-label l = (l.seen ≡ seen_of l.labels l.label-index) × ¬ Some (TwiceAt l.labels) 1 (suc l.label-index)
