@@ -6,6 +6,6 @@ use Rattle.corners.proofs.put_keys.Goals as goal
 pub returns : goal.returns
 returns c =
     let said = c.put_pair-2.ensures in
-    let end : c.loop-i.i ≡ length c.args.left.now = omega (arith, c.loop-i.invariant.0, c.loop-i-test.false) in
-    rw said.keys_after (keyed_last _ _ _ _ c.loop-i.keys (rw end at c.loop-i.invariant.2)
-    (omega (arith, c.loop-i.invariant.1, c.requires.left_len_bound.1)) said.small)
+    let end : c.loop-i.i ≡ length c.args.lists.now.left.now = omega (arith, c.len-n.ensures, c.loop-i-test.false) in
+    rw (said.keys_after, c.len-n.ensures) (keyed_last _ _ _ _ c.loop-i.keys (rw end at c.loop-i.invariant.1)
+    (omega (arith, c.loop-i.invariant.0, c.requires)) said.small)
