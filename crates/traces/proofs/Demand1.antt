@@ -1,6 +1,6 @@
 -- Demand 1 for traces: an answer comes with its cause and without the causes that the order names before it, and no other answer has its
 -- cause.
-use Rattle.std.specs.Prelude.{List, [], ◌≡◌, refl, ℕ, ◌<◌, length}
+use Rattle.std.specs.Prelude.{List, [], ◌≡◌, refl, ℕ, ◌<◌, length, Err}
 use Rattle.std.proofs.Math.Logic.{ite, if_pos, if_neg}
 use Rattle.std.proofs.Common.{sym, ap, ◌∙◌}
 use Rattle.std.proofs.Math.Decide.{dec_lt}
@@ -10,22 +10,21 @@ use Rattle.record.specs.declared.Refusal.TheVariants.{TooLong, ShortOutput}
 use Rattle.traces.specs.Move.{moves_of}
 use Rattle.traces.specs.State.{rooms_of, runs_of}
 use Rattle.traces.specs.Replay.{Replay, ended, stopped, replay}
-use Rattle.traces.specs.Answer.{replay_answer, trace_answer}
+use Rattle.traces.specs.Answer.{TraceAnswer, replayed_to, replay_answer, trace_answer}
 use Rattle.traces.specs.Row.{Leads, Stops}
 use Rattle.traces.proofs.Row.{ended_iff_leads, stopped_iff_stops}
-use Rattle.traces.specs.declared.TraceAnswer.{TraceAnswer}
-use Rattle.traces.specs.declared.TraceAnswer.TheVariants.{Replayed, RefusedMove, Refused}
+use Rattle.traces.specs.declared.TraceError.TheVariants.{RefusedMove, Refused}
 
 -- an answer with its cause
 pub data TraceSays (bytes : List ℕ) (capacity : ℕ) : TraceAnswer → Type 0 where
-  too_long : 65535 < length bytes → TraceSays bytes capacity (Refused TooLong)
+  too_long : 65535 < length bytes → TraceSays bytes capacity (Err (Refused TooLong))
   refused_move : {refusal : Refusal} {ordinal : ℕ} {before : List Triple} → ¬ (65535 < length bytes)
       → Stops [] (moves_of bytes) refusal ordinal before
-      → TraceSays bytes capacity (RefusedMove refusal ordinal (rooms_of before) (runs_of before))
+      → TraceSays bytes capacity (Err (RefusedMove refusal ordinal (rooms_of before) (runs_of before)))
   short : {end : List Triple} → ¬ (65535 < length bytes) → Leads [] (moves_of bytes) end → capacity < length (moves_of bytes)
-      → TraceSays bytes capacity (Refused ShortOutput)
+      → TraceSays bytes capacity (Err (Refused ShortOutput))
   replayed : {end : List Triple} → ¬ (65535 < length bytes) → Leads [] (moves_of bytes) end → ¬ (capacity < length (moves_of bytes))
-      → TraceSays bytes capacity (Replayed (length (moves_of bytes)) (rooms_of end) (runs_of end))
+      → TraceSays bytes capacity (replayed_to (length (moves_of bytes)) (rooms_of end) (runs_of end))
 
 module _ (bytes : List ℕ) (capacity : ℕ) where
   -- each answer has its cause
@@ -34,12 +33,12 @@ module _ (bytes : List ℕ) (capacity : ℕ) where
     where
       end_of : (end : List Triple) (count : ℕ) → ¬ (65535 < length bytes) → Leads [] (moves_of bytes) end → count ≡ length (moves_of bytes)
           → (d : Dec (capacity < count))
-          → TraceSays bytes capacity (ite d (Refused ShortOutput) (Replayed count (rooms_of end) (runs_of end)))
+          → TraceSays bytes capacity (ite d (Err (Refused ShortOutput)) (replayed_to count (rooms_of end) (runs_of end)))
       end_of end count few l e (yes d) = short few l (rw e at d)
       end_of end count few l e (no d) = rw e (replayed few l (rw e at d))
 
       judge : (d : Dec (65535 < length bytes)) (r : Replay) → replay (moves_of bytes) ≡ r
-          → TraceSays bytes capacity (ite d (Refused TooLong) (replay_answer r capacity))
+          → TraceSays bytes capacity (ite d (Err (Refused TooLong)) (replay_answer r capacity))
       judge (yes d) r e = too_long d
       judge (no d) (stopped refusal ordinal before) e =
           refused_move d ((stopped_iff_stops (moves_of bytes) refusal ordinal before).0 e)

@@ -1,5 +1,5 @@
 -- M-111: what is promised of a replay.
-use Rattle.std.specs.Prelude.{List, [], ◌∷◌, map, ◌↔◌, ◌≡◌, ℕ, suc, ◌+◌, ◌-◌, ◌≤◌, ◌<◌, length, take}
+use Rattle.std.specs.Prelude.{List, [], ◌∷◌, map, ◌↔◌, ◌≡◌, ℕ, suc, ◌+◌, ◌-◌, ◌≤◌, ◌<◌, length, take, Ok, Err}
 use Rattle.std.proofs.Common.{inr, sym, ap, ap₂, subst, ◌∙◌, arith, length-take}
 use Rattle.std.proofs.Math.Logic.{if_neg}
 use Rattle.std.proofs.Math.Decide.{dec_lt}
@@ -13,15 +13,13 @@ use Rattle.record.specs.declared.Refusal.TheVariants.{MissingRun}
 use Rattle.traces.specs.Move.{Move, add, take_away, claim, unknown, moves_of}
 use Rattle.traces.specs.State.{rooms_of, counts_of, runs_in, runs_of, entry_of}
 use Rattle.traces.specs.Replay.{refused, next, after, Replay, ended, stopped, replay, states_from}
-use Rattle.traces.specs.Answer.{replay_answer, trace_answer, entries_of}
+use Rattle.traces.specs.Answer.{TraceAnswer, replayed_to, replay_answer, trace_answer, entries_of}
 use Rattle.traces.specs.Cause.{Refuses, Makes, added, taken, claimed, Caused, caused, refuses_after, makes_after}
 use Rattle.traces.proofs.Row.{ended_iff_leads, stopped_iff_stops, cut_at_refused, stops_within}
 use Rattle.traces.specs.Still.{Built, start}
 use Rattle.traces.proofs.Still.{still_present, adds_of, still_there, built_there, leads_built, built_leads, length_adds}
 use Rattle.traces.specs.Bytes.{BadBytes, bad→unknown, unknown→bad, cut_bytes}
 use Rattle.traces.proofs.Adding.{triples_of, trace_of, length_first, counts_first, leads_first, lacks_first, moves_of_trace, trace_few}
-use Rattle.traces.specs.declared.TraceAnswer.{TraceAnswer}
-use Rattle.traces.specs.declared.TraceAnswer.TheVariants.{Replayed, RefusedMove, Refused}
 
 -- 1, 12, 13, 28 and 29: each exactly on its cause
 pub m111_refused_iff_cause : (move : Move) (present : List Triple) (refusal : Refusal)
@@ -111,9 +109,8 @@ module _ (bytes : List ℕ) (kind : ¬ NoKind bytes) (few : kind_of bytes ≤ 25
       (o, b, ap replay (moves_of_trace bytes) ∙ (stopped_iff_stops (adds_of (triples_of bytes)) MissingRun o b).1 s)
 
 abbrev runs_told : TraceAnswer → ℕ
-runs_told (Replayed moves rooms runs) = runs
-runs_told (RefusedMove refusal ordinal rooms runs) = 0
-runs_told (Refused refusal) = 0
+runs_told (Ok replayed) = replayed.runs
+runs_told (Err error) = 0
 
 none_is_one : ¬ (◌≡◌ {A = ℕ} 0 1)
 none_is_one e = omega arith
@@ -121,7 +118,7 @@ none_is_one e = omega arith
 -- so it is accepted with one run left exactly if the record is accepted
 pub m111_record_accepted_iff_one_run_left : (bytes : List ℕ) (capacity : ℕ) → ¬ NoKind bytes → ¬ ShortBody bytes → ¬ BytesAfter bytes
     → ¬ SpareBit bytes → kind_of bytes ≤ 255 → kind_of bytes ≤ suc capacity
-    → (trace_answer (trace_of bytes) capacity ≡ Replayed (kind_of bytes - 1) (kind_of bytes) 1) ↔ Readable bytes
+    → (trace_answer (trace_of bytes) capacity ≡ replayed_to (kind_of bytes - 1) (kind_of bytes) 1) ↔ Readable bytes
 m111_record_accepted_iff_one_run_left bytes capacity kind long short spare few room = (to, from)
   where
     answer_is : (r : Replay) → replay (moves_of (trace_of bytes)) ≡ r → trace_answer (trace_of bytes) capacity ≡ replay_answer r capacity
@@ -131,13 +128,13 @@ m111_record_accepted_iff_one_run_left bytes capacity kind long short spare few r
 
     -- where no run is missing
     replayed : ¬ Missing (end_of bytes)
-        → trace_answer (trace_of bytes) capacity ≡ Replayed (kind_of bytes - 1) (kind_of bytes) (runs_in (end_of bytes))
+        → trace_answer (trace_of bytes) capacity ≡ replayed_to (kind_of bytes - 1) (kind_of bytes) (runs_in (end_of bytes))
     replayed there =
         let (ends, rooms, walked) = m111_record_ends_in_its_walk bytes kind few there in
         answer_is _ ends ∙ if_neg (dec_lt capacity (kind_of bytes - 1)) (omega arith) _ _
-        ∙ ap₂ (Replayed (kind_of bytes - 1)) rooms (ap runs_in walked)
+        ∙ ap₂ (replayed_to (kind_of bytes - 1)) rooms (ap runs_in walked)
 
-    to : trace_answer (trace_of bytes) capacity ≡ Replayed (kind_of bytes - 1) (kind_of bytes) 1 → Readable bytes
+    to : trace_answer (trace_of bytes) capacity ≡ replayed_to (kind_of bytes - 1) (kind_of bytes) 1 → Readable bytes
     to e = go (dec_missing (end_of bytes))
       where
         go : Dec (Missing (end_of bytes)) → Readable bytes
@@ -148,5 +145,5 @@ m111_record_accepted_iff_one_run_left bytes capacity kind long short spare few r
             let left = one_run (end_of bytes) (ap runs_told (sym (replayed there) ∙ e)) in
             record { kind = kind; long = long; short = short; spare = spare; runs = left.0; one_run = left.1 }
 
-    from : Readable bytes → trace_answer (trace_of bytes) capacity ≡ Replayed (kind_of bytes - 1) (kind_of bytes) 1
-    from r = replayed r.runs ∙ ap (Replayed (kind_of bytes - 1) (kind_of bytes)) (one_left (end_of bytes) r.runs r.one_run)
+    from : Readable bytes → trace_answer (trace_of bytes) capacity ≡ replayed_to (kind_of bytes - 1) (kind_of bytes) 1
+    from r = replayed r.runs ∙ ap (replayed_to (kind_of bytes - 1) (kind_of bytes)) (one_left (end_of bytes) r.runs r.one_run)

@@ -1,13 +1,12 @@
 -- How large the numbers of an answer can be: a count of moves and an ordinal have 16 bits, rooms and runs have 8.
 use Rattle.std.specs.Prelude.{List, ℕ, length}
 use Rattle.std.proofs.Common.{sym, subst, arith}
-use Rattle.traces.specs.Answer.{trace_answer, Traced}
+use Rattle.traces.specs.Answer.{TraceAnswer, trace_answer, Traced}
 use Rattle.traces.proofs.Row.{stops_within}
 use Rattle.traces.specs.Still.{start}
 use Rattle.traces.proofs.Still.{built_few, built_runs, leads_built, stops_built}
 use Rattle.traces.specs.Bytes.{moves_few}
 use Rattle.traces.proofs.Demand1.{TraceSays, too_long, refused_move, short, replayed, demand1_trace_cause}
-use Rattle.traces.specs.declared.TraceAnswer.{TraceAnswer}
 use Rattle.traces.specs.Sizes.{TraceFits}
 
 pub m111_answer_fits : (bytes : List ℕ) (capacity : ℕ) → TraceFits (trace_answer bytes capacity)
