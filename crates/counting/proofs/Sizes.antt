@@ -1,24 +1,22 @@
 -- How large a figure can be: for up to 17 rooms it fits 64 bits with a sign.
-use Rattle.std.specs.Prelude.{List, ℕ, zero, suc, ◌^◌, ◌≤◌}
+use Rattle.std.specs.Prelude.{List, ℕ, zero, suc, ◌^◌, ◌≤◌, Ok, Err}
 use Rattle.std.proofs.Math.Logic.{ite}
 use Rattle.std.proofs.Common.{sym, subst, arith}
 use Rattle.finite.specs.HowMany.{HowMany, one_number}
 use Rattle.record.specs.declared.Refusal.TheVariants as refusal
-use Rattle.counting.specs.Answer.{NotCounted, dec_not_counted, Reports, PlanCount, PlanTotal}
+use Rattle.counting.specs.Answer.{CountAnswer, NotCounted, dec_not_counted, Reports, PlanCount, PlanTotal}
 use Rattle.counting.specs.Ways.{plan_count, plan_total}
 use Rattle.counting.proofs.Figures.{count_how_many, total_how_many}
 use Rattle.counting.proofs.Reported.{counted_rooms}
 use Rattle.counting.proofs.AllWays.{total_all_ways}
 use Rattle.counting.proofs.Begun.{ways_small, all_ways_small}
-use Rattle.counting.specs.declared.CountAnswer.{CountAnswer}
-use Rattle.counting.specs.declared.CountAnswer.TheVariants.{Count, Refused}
 use Rattle.counting.specs.Sizes.{CountFits}
 
 fits : (n : ℕ) {P : List ℕ → Type 0} {answer : CountAnswer} → ((figure : ℕ) → 1 ≤ n → n ≤ 17 → HowMany P figure → figure ≤ 2 ^ 48)
     → Reports n P answer → CountFits answer
 fits n {P} small r = subst CountFits (sym r.answered) (go (dec_not_counted n))
   where
-    go : (d : Dec (NotCounted n)) → CountFits (ite d (Refused refusal.NotCounted) (Count r.figure))
+    go : (d : Dec (NotCounted n)) → CountFits (ite d (Err refusal.NotCounted) (Ok r.figure))
     go (yes h) = tt
     go (no h) =
         let (some, few) = counted_rooms n h in

@@ -1,14 +1,17 @@
 -- What the two calls answer. "For n from 1 to 17 report, for each number of rises from 0 to n − 1, how many accepted records of n rooms
 -- have it, and the total. Answers: 30 for n of 0 or above 17, the only check."
-use Rattle.std.specs.Prelude.{List, ◌⊎◌, ◌≡◌, ℕ, ◌<◌}
+use Rattle.std.specs.Prelude.{List, ◌⊎◌, ◌≡◌, ℕ, ◌<◌, Result, Ok, Err}
 use Rattle.std.proofs.Math.Logic.{ite}
 use Rattle.std.proofs.Math.Decide.{dec_lt, ℕ_discrete}
 use Rattle.finite.specs.Decide.{dec-⊎}
 use Rattle.finite.specs.HowMany.{HowMany}
+use Rattle.record.specs.declared.Refusal.{Refusal}
 use Rattle.record.specs.declared.Refusal.TheVariants as refusal
 use Rattle.counting.specs.Counted.{AcceptedRecord, AcceptedWithRises}
-use Rattle.counting.specs.declared.CountAnswer.{CountAnswer}
-use Rattle.counting.specs.declared.CountAnswer.TheVariants.{Count, Refused}
+
+-- the figure that was asked for, or why there is none
+abbrev pub CountAnswer : Type 0
+CountAnswer = Result ℕ Refusal
 
 -- "n of 0 or above 17"
 abbrev pub NotCounted : ℕ → Type 0
@@ -20,7 +23,7 @@ dec_not_counted n = dec-⊎ (ℕ_discrete n 0) (dec_lt 17 n)
 
 -- the answer for n rooms where this is the figure
 abbrev pub count_answer : (n figure : ℕ) → CountAnswer
-count_answer n figure = ite (dec_not_counted n) (Refused refusal.NotCounted) (Count figure)
+count_answer n figure = ite (dec_not_counted n) (Err refusal.NotCounted) (Ok figure)
 
 -- an answer for n rooms that reports how many records have P
 pub record Reports (n : ℕ) (P : List ℕ → Type 0) (answer : CountAnswer) : Type 0 where

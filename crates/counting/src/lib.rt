@@ -1,11 +1,4 @@
-// How many plans there are: what the two calls answer. The definitions and the theorems stand in specs/.
+// How many plans there are, for up to so many rooms. The definitions and the theorems stand in specs/.
 #![tactic(auto)]
 
-use record::Refusal;
-
-// The figure that was asked for, or why there is none.
-#[derive(Clone, Copy)]
-pub enum CountAnswer {
-    Count(u64),
-    Refused(Refusal),
-}
+pub const MOST_ROOMS: u8 = 17;
