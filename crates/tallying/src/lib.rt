@@ -8,7 +8,7 @@
 // where a plane ends the next one does.
 #![tactic(auto)]
 
-ghost use Rattle.std.specs.Prelude.{◌≡◌, suc, ◌+◌, ◌*◌, ◌^◌, ◌≤◌, ◌<◌, min, length};
+ghost use Rattle.std.specs.Prelude.{◌≡◌, suc, ◌+◌, ◌*◌, ◌^◌, ◌≤◌, ◌<◌, length};
 ghost use Rattle.finite.specs.Fill.{Filling};
 ghost use Rattle.counting.specs.Ways.{plan_count, plan_total};
 ghost use Rattle.finite.specs.Decide.{Tells};
@@ -16,7 +16,7 @@ ghost use Rattle.counting.specs.Answer.{NotCounted, PlanCount, PlanTotal};
 ghost use Rattle.tallying.specs.Plane.{cell_of, copy_of, RowFits, PlaneFits, Swept};
 ghost use Rattle.tallying.specs.Shows.{Planes};
 
-use counting::CountAnswer;
+use counting::MOST_ROOMS;
 use record::Refusal;
 
 // From one row of a plane to the next, and from one plane to the next.
@@ -26,16 +26,6 @@ const PLANE: usize = 110;
 
 // The place of no runs in the second plane.
 const NO_RUNS: usize = 129;
-
-// The smaller of two numbers.
-fn least(a: usize, b: usize) -> usize
-    ensures { result ≡ min a b }
-{
-    if a < b {
-        return a;
-    }
-    b
-}
 
 // The figure at a place: four from the same plane, which still holds those with a rise less, and four from the plane before it, of a fall
 // less. One place on is the figure of one run above less, and ten on that of one run below more.
@@ -53,10 +43,8 @@ fn sweep_row(planes: &mut [u64], start: usize, end: usize)
     requires { RowFits start end planes.old }
     ensures { Filling (cell_of planes.old) start end planes.old planes.new }
 {
-    let mut at = start;
-    while at < end {
+    for at in start..end {
         planes[at] = figure(planes, at);
-        at += 1;
     }
 }
 
@@ -65,11 +53,9 @@ fn sweep(planes: &mut [u64], start: usize, rows: usize, columns: usize)
     requires { PlaneFits start rows columns planes.old }
     ensures { Swept start rows columns planes.old planes.new }
 {
-    let mut i = 0;
-    while i < rows {
+    for i in 0..rows {
         let at = start + ROW * i;
         sweep_row(planes, at, at + columns);
-        i += 1;
     }
 }
 
@@ -78,17 +64,15 @@ fn let_rise(planes: &mut [u64], rises_left: usize, rises: usize, falls: usize)
     requires { Planes rises falls rises_left planes.old × (rises_left ≤ rises) × (rises + falls ≤ 16) × (falls ≤ 8) }
     ensures { Planes rises falls (suc rises_left) planes.new }
 {
-    let mut falls_left = 0;
-    while falls_left <= falls {
-        let below = least(falls_left, rises - rises_left);
-        let above = least(rises_left, falls - falls_left);
+    for falls_left in 0..falls + 1 {
+        let below = falls_left.min(rises - rises_left);
+        let above = rises_left.min(falls - falls_left);
         sweep(
             planes,
             PLANE * falls_left + NO_RUNS - above,
             below + 1,
             above + 1,
         );
-        falls_left += 1;
     }
 }
 
@@ -99,10 +83,8 @@ fn count_of(rises: usize, falls: usize) -> u64
 {
     let mut planes = [0u64; 1101];
     planes[NO_RUNS] = 1;
-    let mut sweeps = 0;
-    while sweeps <= rises {
-        let_rise(&mut planes, sweeps, rises, falls);
-        sweeps += 1;
+    for rises_left in 0..rises + 1 {
+        let_rise(&mut planes, rises_left, rises, falls);
     }
     planes[PLANE * falls + NO_RUNS]
 }
@@ -112,11 +94,7 @@ fn copy_back(planes: &mut [u64])
     requires { length planes.old ≡ 221 }
     ensures { Filling (copy_of planes.old) 0 110 planes.old planes.new }
 {
-    let mut at = 0;
-    while at < PLANE {
-        planes[at] = planes[PLANE + at];
-        at += 1;
-    }
+    planes.copy_within(PLANE..2 * PLANE, 0);
 }
 
 // The number of plans of n rooms. Without the rises one plane is both what a rise and what a fall goes on with.
@@ -127,12 +105,10 @@ fn total_of(n: usize) -> u64
     let mut pair = [0u64; 221];
     pair[NO_RUNS] = 1;
     copy_back(&mut pair);
-    let mut k = 0;
-    while k + 1 < n {
-        let reach = least(k + 1, n - 2 - k);
+    for k in 0..n - 1 {
+        let reach = (k + 1).min(n - 2 - k);
         sweep(&mut pair, NO_RUNS - reach, reach + 1, reach + 1);
         copy_back(&mut pair);
-        k += 1;
     }
     pair[NO_RUNS]
 }
@@ -141,33 +117,33 @@ fn total_of(n: usize) -> u64
 fn not_counted(n: u8) -> bool
     ensures { Tells result (NotCounted n) }
 {
-    (n == 0) | (17 < n)
+    (n == 0) | (MOST_ROOMS < n)
 }
 
 // How many accepted records of n rooms have so many rises.
-pub fn plan_count(n: u8, rises: u8) -> CountAnswer
+pub fn plan_count(n: u8, rises: u8) -> Result<u64, Refusal>
     ensures { PlanCount n rises result }
 {
     if not_counted(n) {
-        return CountAnswer::Refused(Refusal::NotCounted);
+        return Err(Refusal::NotCounted);
     }
     if n <= rises {
-        return CountAnswer::Count(0);
+        return Ok(0);
     }
     let falls = n - 1 - rises;
     // As many plans have so many falls, and fewer falls take fewer planes.
     if rises < falls {
-        return CountAnswer::Count(count_of(falls as usize, rises as usize));
+        return Ok(count_of(usize::from(falls), usize::from(rises)));
     }
-    CountAnswer::Count(count_of(rises as usize, falls as usize))
+    Ok(count_of(usize::from(rises), usize::from(falls)))
 }
 
 // How many accepted records of n rooms there are.
-pub fn plan_total(n: u8) -> CountAnswer
+pub fn plan_total(n: u8) -> Result<u64, Refusal>
     ensures { PlanTotal n result }
 {
     if not_counted(n) {
-        return CountAnswer::Refused(Refusal::NotCounted);
+        return Err(Refusal::NotCounted);
     }
-    CountAnswer::Count(total_of(n as usize))
+    Ok(total_of(usize::from(n)))
 }

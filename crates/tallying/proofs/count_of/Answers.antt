@@ -6,11 +6,11 @@ use Rattle.tallying.specs.Shows.{Planes}
 use Rattle.tallying.proofs.Counts.{first_planes, counted}
 use Rattle.tallying.proofs.count_of.Goals as goal
 
-pub loop-sweeps-init : goal.loop-sweeps-init
-loop-sweeps-init c = (first_planes c.args.rises c.args.falls (omega (arith, c.requires)), omega arith)
+pub loop-rises_left-init : goal.loop-rises_left-init
+loop-rises_left-init c = first_planes c.args.rises c.args.falls (omega (arith, c.requires))
 
 pub returns : goal.returns
 returns c =
     let a = c.args in
-    let all : c.loop-sweeps.sweeps ≡ suc a.rises = omega arith in
-    counted a.rises a.falls (subst (λ (k : ℕ). Planes a.rises a.falls k c.loop-sweeps.planes) all c.loop-sweeps.invariant.0)
+    let all : c.loop-rises_left.rises_left ≡ suc a.rises = omega arith in
+    counted a.rises a.falls (subst (λ (k : ℕ). Planes a.rises a.falls k c.loop-rises_left.planes) all c.loop-rises_left.invariant)

@@ -1,11 +1,11 @@
 -- `tallying::plan_count` meets its contract: the recursion's figure is how many records there are.
 use mathlib.Core.Path.{◌≡◌, sym, ap, ◌∙◌}
+use Rattle.std.specs.Prelude.{Ok}
 use Prim.Native.Nat.{ℕ, suc, ◌+◌, ◌-◌, ◌≤◌}
 use native.Mathlib.Omega.{arith}
 use Rattle.counting.specs.Ways.{plan_count}
 use Rattle.counting.proofs.Begun.{count_none}
 use Rattle.counting.proofs.Mirror.{count_mirrored}
-use Rattle.counting.specs.declared.CountAnswer.TheVariants.{Count}
 use Rattle.counting.proofs.Reported.{outside, counted_rooms, inside, count_reported}
 use borrow.Author.Rules.{rules}
 use Rattle.tallying.proofs.plan_count.Goals as goal
@@ -24,21 +24,24 @@ pub returns-then-n-rises : goal.returns-then-n-rises
 returns-then-n-rises c =
     let a = c.args in
     let (some, few) = rooms (goal.at.returns-then-n-rises c).Else-not_counted in
-    count_reported a.n a.rises (omega arith) (ap Count (sym (count_none a.n a.rises (omega arith))) ∙ inside a.n (plan_count a.n a.rises) some few)
+    count_reported a.n a.rises (omega arith) (ap Ok (sym (count_none a.n a.rises (omega arith))) ∙ inside a.n (plan_count a.n a.rises) some few)
+
+-- a figure of so many rises and falls, which make n rooms
+figure_of : (n rises r f : ℕ) {figure : ℕ} → figure ≡ plan_count (suc (r + f)) r → r ≡ rises → suc (rises + f) ≡ n → figure ≡ plan_count n rises
+figure_of n rises r f is e size = let d : suc (r + f) ≡ n = omega arith in is ∙ (λ i. plan_count (d i) (e i))
 
 pub returns-then-rises-falls : goal.returns-then-rises-falls
 returns-then-rises-falls c =
     let a = c.args in
     let (some, few) = rooms (goal.at.returns-then-rises-falls c).Else-not_counted in
     let falls = a.n - 1 - a.rises in
-    let size : suc (falls + a.rises) ≡ a.n = omega arith in
+    let counted : c.count_of.result ≡ plan_count a.n falls = figure_of a.n falls _ _ c.count_of.ensures (omega arith) (omega arith) in
     count_reported a.n a.rises (omega arith)
-    (ap Count (c.count_of.ensures ∙ ap (λ (m : ℕ). plan_count m falls) size ∙ count_mirrored a.n falls a.rises (omega arith)) ∙ inside a.n (plan_count a.n a.rises) some few)
+    (ap Ok (counted ∙ count_mirrored a.n falls a.rises (omega arith)) ∙ inside a.n (plan_count a.n a.rises) some few)
 
 pub returns : goal.returns
 returns c =
     let a = c.args in
     let (some, few) = rooms (goal.at.returns c).Else-not_counted in
-    let size : suc (a.rises + (a.n - 1 - a.rises)) ≡ a.n = omega arith in
-    count_reported a.n a.rises (omega arith)
-    (ap Count (c.count_of-2.ensures ∙ ap (λ (m : ℕ). plan_count m a.rises) size) ∙ inside a.n (plan_count a.n a.rises) some few)
+    let counted : c.count_of-2.result ≡ plan_count a.n a.rises = figure_of a.n a.rises _ _ c.count_of-2.ensures (omega arith) (omega arith) in
+    count_reported a.n a.rises (omega arith) (ap Ok counted ∙ inside a.n (plan_count a.n a.rises) some few)

@@ -1,9 +1,9 @@
 -- `tallying::plan_total` meets its contract: the recursion's total is how many records there are.
+use Rattle.std.specs.Prelude.{Ok}
 use Prim.Native.Nat.{◌≤◌}
-use mathlib.Core.Path.{ap, ◌∙◌}
+use mathlib.Core.Path.{◌≡◌, ap, ◌∙◌}
 use native.Mathlib.Omega.{arith}
 use Rattle.counting.specs.Ways.{plan_total}
-use Rattle.counting.specs.declared.CountAnswer.TheVariants.{Count}
 use Rattle.counting.proofs.Reported.{outside, counted_rooms, inside, total_reported}
 use borrow.Author.Rules.{rules}
 use Rattle.tallying.proofs.plan_total.Goals as goal
@@ -22,4 +22,5 @@ pub returns : goal.returns
 returns c =
     let n = c.args.n in
     let (some, few) = rooms (goal.at.returns c).Else-not_counted in
-    total_reported n (omega arith) (ap Count c.total_of.ensures ∙ inside n (plan_total n) some few)
+    let same : c.from.result ≡ n = omega arith in
+    total_reported n (omega arith) (ap Ok (c.total_of.ensures ∙ ap plan_total same) ∙ inside n (plan_total n) some few)

@@ -1,11 +1,7 @@
 -- `tallying::sweep_row` meets its contract: each figure from what stood there at the start.
-use Prim.Native.Nat.{◌-◌, ◌≤◌}
 use Rattle.finite.specs.Fill.{Filling}
 use Rattle.tallying.specs.Plane.{cell_of}
 use Rattle.tallying.proofs.sweep_row.Given as goal
 
 abbrev pub invariant-loop-at : goal.invariant-loop-at
-invariant-loop-at l = Filling (cell_of l.initial.planes) l.start l.at l.initial.planes l.planes × (l.start ≤ l.at) × (l.at ≤ l.end)
-
-abbrev pub decreases-loop-at : goal.decreases-loop-at
-decreases-loop-at l = l.end - l.at
+invariant-loop-at l = Filling (cell_of l.initial.planes) l.start l.at l.initial.planes l.planes

@@ -13,21 +13,21 @@ use Rattle.tallying.proofs.total_of.Goals.{At-loop-k}
 -- a turn is left
 more : (l : At-loop-k) → let n = l.args.n in
     l.loop-k.k + 1 < n → BothPlanes (n - 2 - l.loop-k.k + 1) l.loop-k.k l.loop-k.pair
-more l h = subst (λ (r : ℕ). BothPlanes r l.loop-k.k l.loop-k.pair) (omega arith) l.loop-k.invariant.0
+more l h = subst (λ (r : ℕ). BothPlanes r l.loop-k.k l.loop-k.pair) (omega arith) l.loop-k.invariant
 
 pub loop-k-init : goal.loop-k-init
 loop-k-init c =
-    (both_planes (c.args.n - 1 - 0) 0 (length_one 221) (first_plane (c.args.n - 1 - 0)) c.copy_back.ensures, omega (arith, c.requires), c.requires.1)
+    both_planes (c.args.n - 1 - 0) 0 (length_one 221) (first_plane (c.args.n - 1 - 0)) c.copy_back.ensures
 
 pub sweep-requires : goal.sweep-requires
 sweep-requires c =
-    total_fits _ c.loop-k.k c.least-reach.result (omega arith) c.least-reach.ensures (more (goal.at.sweep-requires c).At-loop-k (omega arith))
+    total_fits _ c.loop-k.k c.min-reach.result (omega arith) c.min-reach.ensures (more (goal.at.sweep-requires c).At-loop-k (omega arith))
 
 pub loop-k-preserved : goal.loop-k-preserved
 loop-k-preserved c =
-    let shows = total_shows _ c.loop-k.k c.least-reach.result (omega arith) c.least-reach.ensures (more (goal.at.loop-k-preserved c).At-loop-k (omega arith)) c.sweep.ensures in
-    (rw (add-one c.loop-k.k) (both_planes _ (suc c.loop-k.k) (c.sweep.ensures.size ∙ c.loop-k.invariant.0.size) (shows_as shows refl (omega arith) (omega arith)) c.copy_back-in-loop-k.ensures), omega arith, c.loop-k.invariant.2)
+    let shows = total_shows _ c.loop-k.k c.min-reach.result (omega arith) c.min-reach.ensures (more (goal.at.loop-k-preserved c).At-loop-k (omega arith)) c.sweep.ensures in
+    rw (add-one c.loop-k.k) (both_planes _ (suc c.loop-k.k) (c.sweep.ensures.size ∙ c.loop-k.invariant.size) (shows_as shows refl (omega arith) (omega arith)) c.copy_back-in-loop-k.ensures)
 
 pub returns : goal.returns
 returns c =
-    totalled c.args.n c.loop-k.k (omega arith) c.loop-k.invariant.0
+    totalled c.args.n c.loop-k.k (omega arith) c.loop-k.invariant
