@@ -1,6 +1,6 @@
 -- M-105 as theorems: no four labels meet both conditions, and the first pattern is the only first; each answer has its cause, and an
 -- answer with its cause is the answer; a pattern and "no pattern" are told apart.
-use Rattle.std.specs.Prelude.{List, ◌↔◌, ◌≡◌, refl, ℕ, ◌<◌, length}
+use Rattle.std.specs.Prelude.{Result, Ok, Err, Option, Some, None, List, ◌↔◌, ◌≡◌, refl, ℕ, ◌<◌, length}
 use Rattle.std.proofs.Common.{inl, inr, sym, subst, ◌∙◌, arith}
 use Rattle.finite.specs.Decide.{le_or_lt, eq_or_ne}
 use Rattle.record.specs.Labels.{label_at}
@@ -12,18 +12,15 @@ use Rattle.record.specs.Answer.{labels_answer}
 use Rattle.record.specs.Demand1 as labels_in
 use Rattle.record.specs.Demand1.{LabelsSays, demand1_labels_cause, demand1_labels_answer}
 use Rattle.record.proofs.Demand2.{permutation_once}
-use Rattle.record.specs.declared.Position.{Position}
 use Rattle.record.specs.declared.Refusal.{Refusal}
 use Rattle.record.specs.declared.Refusal.TheVariants.{BarredPattern}
-use Rattle.record.specs.declared.LabelsAnswer.TheVariants as labelsAnswers
 use Rattle.patterns.specs.Pattern.{Meets, Four, Before, FirstPattern}
 use Rattle.patterns.specs.FirstOne.{first_four}
 use Rattle.patterns.proofs.FirstOne.{pattern_barred, first_four_first}
-use Rattle.patterns.specs.Answer.{named, first_or_none, pattern_answer}
+use Rattle.patterns.specs.Answer.{four_of, named, first_or_none, pattern_answer}
 use Rattle.patterns.specs.declared.Condition.{Condition}
 use Rattle.patterns.specs.declared.Condition.TheVariants as condition
-use Rattle.patterns.specs.declared.PatternAnswer.{PatternAnswer}
-use Rattle.patterns.specs.declared.PatternAnswer.TheVariants.{Pattern, NoPattern, Refused}
+use Rattle.patterns.specs.declared.Pattern.{Pattern}
 
 -- ---- one condition, and one first
 -- no four labels meet both conditions, so the condition named is that of the four
@@ -66,20 +63,16 @@ m105_only_first f n which other p q x y =
     e = neither_before p q (y.first which p x.pattern) (x.first other q y.pattern)
 
 -- ---- the answers and their causes
--- the positions that an answer names
-abbrev pub four_of : (i j k l : Position) → Four
-four_of i j k l = record { i = i.0; j = j.0; k = k.0; l = l.0 }
-
 -- an answer with its cause, and without the causes that the order names before it
-pub data PatternSays (labels : List ℕ) : PatternAnswer → Type 0 where
-  refused : {refusal : Refusal} → NotPermutation labels refusal → PatternSays labels (Refused refusal)
-  first : Permutation labels → {which : Condition} {i j k l : Position}
-      → FirstPattern (label_at labels) (length labels) which (four_of i j k l) → PatternSays labels (Pattern which i j k l)
-  none : Permutation labels → ¬ Barred (label_at labels) (length labels) → PatternSays labels NoPattern
+pub data PatternSays (labels : List ℕ) : Result (Option Pattern) Refusal → Type 0 where
+  refused : {refusal : Refusal} → NotPermutation labels refusal → PatternSays labels (Err refusal)
+  first : Permutation labels → {p : Pattern} → FirstPattern (label_at labels) (length labels) p.condition (four_of p)
+      → PatternSays labels (Ok (Some p))
+  none : Permutation labels → ¬ Barred (label_at labels) (length labels) → PatternSays labels (Ok None)
 
 -- each answer has its cause
 pub m105_cause : (labels : List ℕ) → PatternSays labels (pattern_answer labels)
-m105_cause labels = permuted_has (PatternSays labels) Refused labels _ (λ refusal cause. refused cause) (go (dec_barred f n))
+m105_cause labels = permuted_has (PatternSays labels) Err labels _ (λ refusal cause. refused cause) (go (dec_barred f n))
   where
     f : ℕ → ℕ
     f = label_at labels
@@ -98,22 +91,22 @@ first_is f n (yes has) which p x =
     λ i. named (e.0 i) (e.1 i)
 first_is f n (no free) which p x = absurd (free (pattern_barred f n which p x.pattern))
 
-none_is : (f : ℕ → ℕ) (n : ℕ) (d : Dec (Barred f n)) → ¬ Barred f n → NoPattern ≡ first_or_none f n d
+none_is : (f : ℕ → ℕ) (n : ℕ) (d : Dec (Barred f n)) → ¬ Barred f n → Ok None ≡ first_or_none f n d
 none_is f n (yes has) free = absurd (free has)
 none_is f n (no _) free = refl
 
 -- and an answer with its cause is the answer
-pub m105_answer : (labels : List ℕ) {answer : PatternAnswer} → PatternSays labels answer → answer ≡ pattern_answer labels
-m105_answer labels (refused cause) = refused_permuted Refused labels _ cause
-m105_answer labels (first p {which} {i} {j} {k} {l} x) =
-    first_is (label_at labels) (length labels) (dec_barred (label_at labels) (length labels)) which (four_of i j k l) x
-    ∙ permutation_permuted Refused labels _ p
+pub m105_answer : (labels : List ℕ) {answer : Result (Option Pattern) Refusal} → PatternSays labels answer → answer ≡ pattern_answer labels
+m105_answer labels (refused cause) = refused_permuted Err labels _ cause
+m105_answer labels (first p {p = pattern} x) =
+    first_is (label_at labels) (length labels) (dec_barred (label_at labels) (length labels)) pattern.condition (four_of pattern) x
+    ∙ permutation_permuted Err labels _ p
 m105_answer labels (none p free) =
-    none_is (label_at labels) (length labels) (dec_barred (label_at labels) (length labels)) free ∙ permutation_permuted Refused labels _ p
+    none_is (label_at labels) (length labels) (dec_barred (label_at labels) (length labels)) free ∙ permutation_permuted Err labels _ p
 
 module _ (labels : List ℕ) where
   -- an answer that is known, with its cause
-  says : {answer : PatternAnswer} → pattern_answer labels ≡ answer → PatternSays labels answer
+  says : {answer : Result (Option Pattern) Refusal} → pattern_answer labels ≡ answer → PatternSays labels answer
   says e = subst (PatternSays labels) e (m105_cause labels)
 
   -- ---- what is told of a list with none of the causes 1, 6 and 7
@@ -127,19 +120,19 @@ module _ (labels : List ℕ) where
         go (first _ x) = x
 
     -- "the two are told apart by proof": "no pattern" is answered exactly for the Baxter lists
-    pub m105_no_pattern_iff_baxter : (pattern_answer labels ≡ NoPattern) ↔ Baxter labels
+    pub m105_no_pattern_iff_baxter : (pattern_answer labels ≡ Ok None) ↔ Baxter labels
     m105_no_pattern_iff_baxter = (λ e. go (says e), λ b. sym (m105_answer labels (none p b.not_barred)))
       where
-        go : PatternSays labels NoPattern → Baxter labels
+        go : PatternSays labels (Ok None) → Baxter labels
         go (none _ free) = record { each_once = (permutation_once labels p).0; not_barred = free }
 
   -- ---- beside what Labels in answers, with any room for the record
   module _ (capacity : ℕ) where
     -- Labels in refuses the list so
     abbrev pub RefusedWith : Refusal → Type 0
-    RefusedWith refusal = labels_answer labels capacity ≡ labelsAnswers.Refused refusal
+    RefusedWith refusal = labels_answer labels capacity ≡ Err refusal
 
-    labels_say : {refusal : Refusal} → RefusedWith refusal → LabelsSays labels capacity (labelsAnswers.Refused refusal)
+    labels_say : {refusal : Refusal} → RefusedWith refusal → LabelsSays labels capacity (Err refusal)
     labels_say e = subst (LabelsSays labels capacity) e (demand1_labels_cause labels capacity)
 
     refused_with : {refusal : Refusal} → RefusesLabels labels refusal → RefusedWith refusal
@@ -150,7 +143,7 @@ module _ (labels : List ℕ) where
         RefusedWith BarredPattern ↔ ((which : Condition) × (p : Four) × (pattern_answer labels ≡ named which p))
     m105_named_iff_refused_with_8 = (λ e. there (labels_say e), λ (which, p, e). back (says e))
       where
-        there : LabelsSays labels capacity (labelsAnswers.Refused BarredPattern)
+        there : LabelsSays labels capacity (Err BarredPattern)
             → (which : Condition) × (p : Four) × (pattern_answer labels ≡ named which p)
         there (labels_in.refused (barred p b)) =
             let found = first_four (label_at labels) (length labels) b in
@@ -161,19 +154,19 @@ module _ (labels : List ℕ) where
         back {which} {q} (first p x) = refused_with (barred p (pattern_barred (label_at labels) (length labels) which q x.pattern))
 
     -- so a list with none of the causes 1, 6 and 7 gets "no pattern" exactly if Labels in does not refuse it with 8
-    pub m105_no_pattern_iff_not_refused_with_8 : Permutation labels → (pattern_answer labels ≡ NoPattern) ↔ ¬ RefusedWith BarredPattern
+    pub m105_no_pattern_iff_not_refused_with_8 : Permutation labels → (pattern_answer labels ≡ Ok None) ↔ ¬ RefusedWith BarredPattern
     m105_no_pattern_iff_not_refused_with_8 p = (λ e r. never (labels_say r) (says e), back (dec_barred (label_at labels) (length labels)))
       where
-        never : LabelsSays labels capacity (labelsAnswers.Refused BarredPattern) → PatternSays labels NoPattern → ⊥
+        never : LabelsSays labels capacity (Err BarredPattern) → PatternSays labels (Ok None) → ⊥
         never (labels_in.refused (barred _ b)) (none _ free) = free b
         never (labels_in.refused (not_permutation cause)) _ = elim cause [ ]
 
-        back : Dec (Barred (label_at labels) (length labels)) → ¬ RefusedWith BarredPattern → pattern_answer labels ≡ NoPattern
+        back : Dec (Barred (label_at labels) (length labels)) → ¬ RefusedWith BarredPattern → pattern_answer labels ≡ Ok None
         back (yes b) not_so = absurd (not_so (refused_with (barred p b)))
         back (no free) not_so = sym (m105_answer labels (none p free))
 
     -- "Lists refused with 1, 6 or 7 get that number", and no list another
-    pub m105_same_refusals : (refusal : Refusal) → (pattern_answer labels ≡ Refused refusal) ↔ (RefusedWith refusal × (number_of refusal < 8))
+    pub m105_same_refusals : (refusal : Refusal) → (pattern_answer labels ≡ Err refusal) ↔ (RefusedWith refusal × (number_of refusal < 8))
     m105_same_refusals refusal = (λ e. there (says e), λ (e, h). back h (labels_say e))
       where
         small : {refusal : Refusal} → NotPermutation labels refusal → number_of refusal < 8
@@ -181,11 +174,11 @@ module _ (labels : List ℕ) where
         small (outside _ _) = omega arith
         small (twice _ _ _) = omega arith
 
-        there : PatternSays labels (Refused refusal) → RefusedWith refusal × (number_of refusal < 8)
+        there : PatternSays labels (Err refusal) → RefusedWith refusal × (number_of refusal < 8)
         there (refused cause) = (refused_with (not_permutation cause), small cause)
 
-        back : {refusal : Refusal} → number_of refusal < 8 → LabelsSays labels capacity (labelsAnswers.Refused refusal)
-            → pattern_answer labels ≡ Refused refusal
+        back : {refusal : Refusal} → number_of refusal < 8 → LabelsSays labels capacity (Err refusal)
+            → pattern_answer labels ≡ Err refusal
         back h (labels_in.refused (not_permutation cause)) = sym (m105_answer labels (refused cause))
         back h (labels_in.refused (barred _ _)) = absurd (omega arith)
         back h (labels_in.short _ _) = absurd (omega arith)

@@ -4,13 +4,13 @@
 ghost use Rattle.std.specs.Prelude.{◌≡◌, ◌≤◌};
 ghost use Rattle.patterns.specs.Pattern.{condition_number};
 
-use record::{Position, Refusal};
+use record::Position;
 
-// The two conditions of a barred pattern, in the sheet's order.
-#[derive(Clone, Copy)]
+// The two conditions of a barred pattern, in the sheet's order and with its numbers.
+#[derive(Clone, Copy, Debug, PartialEq, Eq)]
 pub enum Condition {
-    First,
-    Second,
+    First = 1,
+    Second = 2,
 }
 
 impl Condition {
@@ -18,18 +18,16 @@ impl Condition {
     pub fn number(self) -> u8
         ensures { (result ≡ condition_number self) × (result ≤ 2) }
     {
-        match self {
-            Condition::First => 1,
-            Condition::Second => 2,
-        }
+        self as u8
     }
 }
 
-// What the call Pattern answers: the condition that the first pattern meets and its positions i, j, k and l; that there is no pattern;
-// or why not.
+// Four positions of a barred pattern, i before j before k before l, and the condition that their labels meet.
 #[derive(Clone, Copy)]
-pub enum PatternAnswer {
-    Pattern(Condition, Position, Position, Position, Position),
-    NoPattern,
-    Refused(Refusal),
+pub struct Pattern {
+    pub condition: Condition,
+    pub i: Position,
+    pub j: Position,
+    pub k: Position,
+    pub l: Position,
 }
