@@ -7,61 +7,46 @@ ghost use Rattle.record.specs.Record.{body_length, triple_in};
 ghost use Rattle.steps.specs.Counts.{end_counts};
 ghost use Rattle.forward.specs.Noted.{Noted};
 
-use steps::RunCounts;
+use drawing::Corners;
+use steps::{Notes, Runs};
 
 // The walk, with the size and the newest position of each run: a stack of each for the runs below and one for those above, the
 // nearest run's on top. Each turn pushes the current run's on both; the counts of runs say how much of a stack is in use. The
 // triples are noted by their numbers; of each position, how many labels of its run lie below it is noted, and the newest
-// positions in the runs next below and next above its label.
-pub fn walk(
-    body: &[u8],
-    n: usize,
-    triples: &mut [u8; 255],
-    lower: &mut [u8; 255],
-    left: &mut [u8; 255],
-    bottom: &mut [u8; 255],
-) -> RunCounts
-    requires fact_1 { (1 ≤ n) × (n ≤ 255) × (length body.now ≡ body_length n) }
-    requires fact_2 { (length triples.old ≡ 255)
-        × (length lower.old ≡ 255) × (length left.old ≡ 255) × (length bottom.old ≡ 255) }
+// positions in the runs next below and next above its label, which are its room's left and bottom. None where a run is missing.
+pub fn walk(body: &[u8], n: usize, notes: &mut Notes, corners: &mut Corners) -> Option<Runs>
+    requires { (1 ≤ n) × (n ≤ 255) × (length body.now ≡ body_length n) }
     ensures counts { end_counts result ≡ walk (triple_in body.now) (n - 1) }
-    ensures notes { Noted result (triple_in body.now) n
-        triples.new lower.new left.new bottom.new }
+    ensures noted { Noted result (triple_in body.now) n notes.new corners.new }
+    ensures kept { (corners.new.right ≡ corners.old.right) × (corners.new.top ≡ corners.old.top) }
 {
     let mut below = [0u8; 255];
     let mut above = [0u8; 255];
     let mut newest_below = [0u8; 255];
     let mut newest_above = [0u8; 255];
-    let mut runs_below = 0;
-    let mut runs_above = 0;
+    let mut runs = Runs { below: 0, above: 0 };
     let mut size = 1;
-    lower[0] = 0;
-    left[0] = 0;
-    bottom[0] = 0;
-    let mut k = 0;
-    while k + 1 < n {
+    notes.lower[0] = 0;
+    corners.left[0] = 0;
+    corners.bottom[0] = 0;
+    for k in 0..n - 1 {
         let triple = bits::group(body, k);
-        triples[k] = triple;
-        let RunCounts::Counted(next_below, next_above) = steps::next(triple, runs_below, runs_above)
-        else {
-            return RunCounts::Missing;
-        };
+        notes.triples[k] = triple;
+        let after = steps::next(triple, runs)?;
         let turn = steps::turn_of(triple);
-        let under = steps::chosen_byte(turn.rises, size, below[runs_below]);
-        let over = steps::chosen_byte(turn.falls, size, above[runs_above]);
+        let under = steps::chosen(turn.rises, size, usize::from(below[runs.below]));
+        let over = steps::chosen(turn.falls, size, usize::from(above[runs.above]));
         let labels_below = steps::chosen(turn.below, under, 0);
-        below[runs_below + 1] = size as u8;
-        above[runs_above + 1] = size as u8;
+        below[runs.below + 1] = size as u8;
+        above[runs.above + 1] = size as u8;
         size = 1 + labels_below + steps::chosen(turn.above, over, 0);
         let next = k + 1;
-        newest_below[runs_below + 1] = next as u8;
-        newest_above[runs_above + 1] = next as u8;
-        lower[next] = labels_below as u8;
-        left[next] = newest_below[runs_below + turn.rises];
-        bottom[next] = newest_above[runs_above + turn.falls];
-        runs_below = next_below;
-        runs_above = next_above;
-        k = next;
+        newest_below[runs.below + 1] = next as u8;
+        newest_above[runs.above + 1] = next as u8;
+        notes.lower[next] = labels_below as u8;
+        corners.left[next] = newest_below[runs.below + turn.rises];
+        corners.bottom[next] = newest_above[runs.above + turn.falls];
+        runs = after;
     }
-    RunCounts::Counted(runs_below, runs_above)
+    Some(runs)
 }
