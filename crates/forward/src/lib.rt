@@ -20,6 +20,7 @@ pub fn walk(body: &[u8], n: usize, notes: &mut Notes, corners: &mut Corners) -> 
     ensures noted { Noted result (triple_in body.now) n notes.new corners.new }
     ensures kept { (corners.new.right ≡ corners.old.right) × (corners.new.top ≡ corners.old.top) }
 {
+    // Four stacks in arrays of their own: a side's two have one height, its count of runs, which a struct of both would hold once more.
     let mut below = [0u8; 255];
     let mut above = [0u8; 255];
     let mut newest_below = [0u8; 255];

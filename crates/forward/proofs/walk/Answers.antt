@@ -1,5 +1,5 @@
 -- `forward::walk` meets its contract. Between two turns Counted holds, of the sizes, and Placed on either side, of the positions; they also say what one more turn leaves.
-use Rattle.std.proofs.Common.{◌≡◌, refl, sym, ap, subst, ◌∙◌, ℕ, suc, ◌+◌, ◌-◌, ◌*◌, ◌≤◌, ◌<◌, List, get_or, arith, rules}
+use Rattle.std.proofs.Common.{◌≡◌, refl, sym, ap, subst, ◌∙◌, ℕ, suc, ◌+◌, ◌-◌, ◌≤◌, ◌<◌, List, get_or, arith, rules}
 use Rattle.bits.specs.Bit.{group_at}
 use Rattle.record.specs.Triple.{Triple}
 use Rattle.record.specs.Walk.{missing, counts, step, walk}
@@ -81,8 +81,11 @@ overflow_cast-above c = omega (arith, size_few c.loop-k.invariant.sizes (more (g
 pub overflow_add-size : goal.overflow_add-size
 overflow_add-size c =
     let at = goal.at.overflow_add-size c in
-    omega (arith, small c.loop-k.invariant.sizes (more at.After-group-triple) (goes at.In_ok-after) c.turn_of-turn.result (told at.After-turn_of-turn)
-    (under_is at.After-chosen-over) (over_is at.After-chosen-over) c.chosen-labels_below.ensures refl)
+    omega (
+      arith,
+      small c.loop-k.invariant.sizes (more at.After-group-triple) (goes at.In_ok-after) c.turn_of-turn.result (told at.After-turn_of-turn)
+          (under_is at.After-chosen-over) (over_is at.After-chosen-over) c.chosen-labels_below.ensures refl,
+    )
 
 pub overflow_add-size-in-loop-k : goal.overflow_add-size-in-loop-k
 overflow_add-size-in-loop-k c =
