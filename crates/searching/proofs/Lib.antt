@@ -1,4 +1,3 @@
 -- Laws that the functions' proofs cite.
-pub mod Placed
-pub mod Compared
+pub mod Table
 pub mod Refused

@@ -1,26 +1,29 @@
 -- What the functions of the search answer.
-use Rattle.std.specs.Prelude.{ℕ, ◌≤◌, ◌<◌}
-use Rattle.patterns.specs.Pattern.{Four, FirstPattern}
-use Rattle.patterns.specs.Answer.{named}
+use Rattle.std.specs.Prelude.{Option, Some, None, Bool, ℕ, ◌<◌}
+use Rattle.finite.specs.First.{FirstOrEnd}
+use Rattle.finite.specs.Search.{Each}
+use Rattle.patterns.specs.Pattern.{FirstPattern}
+use Rattle.patterns.specs.Answer.{four_of}
 use Rattle.patterns.specs.Sides.{condition_of}
 use Rattle.patterns.specs.Scope.{FirstIn, NoneIn, StartsAt, StartsBefore}
-use Rattle.patterns.specs.declared.PatternAnswer.{PatternAnswer}
-use Rattle.searching.specs.declared.Completion.{Completion}
+use Rattle.patterns.specs.declared.Pattern.{Pattern}
 
--- the four positions
-abbrev pub four_of : Completion → Four
-four_of c = record { i = c.i; j = c.j; k = c.k; l = c.l }
+-- the first number of a range that has a property, or that none has
+abbrev pub FirstBetween : (P : ℕ → Type 0) (from to : ℕ) → Option ℕ → Type 0
+FirstBetween P from to (Some at) = FirstOrEnd P from to at × (at < to)
+FirstBetween P from to None = Each (λ at. ¬ P at) from to
 
--- of a position i: the first pattern that starts there, if k comes before l; else none does
-pub record Completes (f : ℕ → ℕ) (n i : ℕ) (c : Completion) : Type 0 where
-  pub some : c.k < c.l → FirstIn f n (StartsAt i) (condition_of c.above) (four_of c)
-  pub none : c.l ≤ c.k → NoneIn f n (StartsAt i)
+-- of a position i: the first pattern that starts there, or that none does
+abbrev pub Completes : (f : ℕ → ℕ) (n i : ℕ) → Option Pattern → Type 0
+Completes f n i (Some p) = FirstIn f n (StartsAt i) p.condition (four_of p)
+Completes f n i None = NoneIn f n (StartsAt i)
 
--- of the positions before one: the first pattern, if k comes before l; else none starts there
-pub record SearchedTo (f : ℕ → ℕ) (n to : ℕ) (c : Completion) : Type 0 where
-  pub some : c.k < c.l → FirstPattern f n (condition_of c.above) (four_of c)
-  pub none : c.l ≤ c.k → NoneIn f n (StartsBefore to)
+-- of the positions before one: the first pattern, or that none starts there
+abbrev pub SearchedTo : (f : ℕ → ℕ) (n to : ℕ) → Option Pattern → Type 0
+SearchedTo f n to (Some p) = FirstPattern f n p.condition (four_of p)
+SearchedTo f n to None = NoneIn f n (StartsBefore to)
 
--- the answer that names a pattern
-abbrev pub name_of : Completion → PatternAnswer
-name_of c = named (condition_of c.above) (four_of c)
+-- the pattern at four positions, by the side on which the last label lies
+abbrev pub pattern_at : (above : Bool) (i j k l : ℕ) → Pattern
+pattern_at above i j k l =
+    record { condition = condition_of above; i = record { 0 = i }; j = record { 0 = j }; k = record { 0 = k }; l = record { 0 = l } }

@@ -1,83 +1,49 @@
 // Pattern: the first barred pattern of a label list, that there is none, or the refusal with 1, 6 or 7, in this order.
 #![tactic(auto)]
 
-ghost use Rattle.std.specs.Prelude.{◌≡◌, ◌+◌, ◌≤◌, ◌<◌, min, max, length, replicate};
-ghost use Rattle.finite.specs.First.{FirstOrEnd};
-ghost use Rattle.record.specs.Labels.{label_at, EachOnce};
+ghost use Rattle.std.specs.Prelude.{◌≡◌, ◌+◌, ◌≤◌, ◌<◌, Ok, length, replicate};
+ghost use Rattle.record.specs.Labels.{label_at};
 ghost use Rattle.record.specs.Judged.{Permutation};
 ghost use Rattle.patterns.specs.Answer.{pattern_answer};
-ghost use Rattle.patterns.specs.Sides.{condition_of, NextTo, Beyond};
+ghost use Rattle.patterns.specs.Sides.{NextTo, Beyond};
 ghost use Rattle.patterns.specs.Scope.{NoneIn, StartsBefore};
-ghost use Rattle.searching.specs.Places.{Places, PlacedOrNot, PlaceNextTo};
-ghost use Rattle.searching.specs.Search.{Completes, SearchedTo, name_of};
+ghost use Rattle.searching.specs.Places.{Places, PlacedOrRefused, PlaceNextTo};
+ghost use Rattle.searching.specs.Search.{FirstBetween, Completes, SearchedTo, pattern_at};
 
-use labels::Verdict;
-use patterns::{Condition, PatternAnswer};
-use record::{Label, Position};
+use patterns::{Condition, Pattern};
+use record::{Label, Position, Refusal};
 
-// A position i, and the condition and the positions j, k and l that can complete it to a pattern. They do if k comes before l; else none
-// do.
+// A list of the labels 1 to n, each once, with the position of each label. Labels that are none of these have place 0.
 #[derive(Clone, Copy)]
-struct Completion {
-    i: usize,
-    above: bool,
-    j: usize,
-    k: usize,
-    l: usize,
+struct Placed<'a> {
+    labels: &'a [u8],
+    places: &'a [u8; 257],
+    ghost permutation: { Permutation labels.now },
+    ghost some: { 1 ≤ length labels.now },
+    ghost few: { length labels.now ≤ 255 },
+    ghost placed: { Places (label_at labels.now) (length labels.now) places.now },
 }
 
-// The label at a position.
-fn label_at(labels: &[u8], position: usize) -> usize
-    requires { (1 ≤ position) × (position ≤ length labels.now) }
-    ensures { (result ≡ label_at labels.now position) × (result ≤ 255) }
-{
-    let label = Label(labels[position - 1]);
-    label.index()
-}
-
-// Lists the position of each label, and tells whether the labels are 1 to n, each once, and at most 255; else the rest is left out.
-fn list_places(labels: &[u8], places: &mut [u8; 257]) -> bool
+// Lists the position of each label of 1 to n, each once; or the refusal with 1, 6 or 7, in this order.
+fn list_places(labels: &[u8], places: &mut [u8; 257]) -> Result<(), Refusal>
     requires { places.old ≡ replicate 257 0 }
-    ensures { PlacedOrNot labels.now places.new result }
+    ensures { PlacedOrRefused labels.now places.new result }
 {
     let n = labels.len();
-    if n == 0 {
-        return false;
-    }
-    if 255 < n {
-        return false;
+    if n == 0 || 255 < n {
+        return Err(Refusal::Count);
     }
     if labels::outside(labels) {
-        return false;
+        return Err(Refusal::LabelOutside);
     }
-    let mut i = 0;
-    while i < n {
-        let label = Label(labels[i]);
-        let at = label.index();
+    for i in 0..n {
+        let at = Label(labels[i]).index();
         if places[at] != 0 {
-            return false;
+            return Err(Refusal::LabelTwice);
         }
-        i += 1;
-        places[at] = i as u8;
+        places[at] = (i + 1) as u8;
     }
-    true
-}
-
-// The first position from `from` on whose label lies above a label, or where `above` is false does not; one that is not before `to` where
-// none before `to` has such a label.
-fn first_beyond(labels: &[u8], from: usize, to: usize, above: bool, label: usize) -> usize
-    requires { (1 ≤ from) × (to ≤ length labels.now) × (length labels.now ≤ 255) }
-    ensures first_or_end { FirstOrEnd (Beyond (label_at labels.now) above label) from to result }
-    ensures upper_bound { result ≤ from + 255 }
-{
-    let mut at = from;
-    while at < to {
-        if (label < label_at(labels, at)) == above {
-            return at;
-        }
-        at += 1;
-    }
-    at
+    Ok(())
 }
 
 // The label next above a label, or where `above` is false next below it.
@@ -88,142 +54,116 @@ fn next_to(label: usize, above: bool) -> usize
     if above { label + 1 } else { label - 1 }
 }
 
-// The condition in which the last label lies above the first one, or where `above` is false below it.
-fn condition_of(above: bool) -> Condition
-    ensures { result ≡ condition_of above }
+// The pattern at four positions of the condition in which the last label lies above the first one, or where `above` is false below it.
+fn pattern_at(above: bool, i: usize, j: usize, k: usize, l: usize) -> Pattern
+    requires { (i ≤ 255) × (j ≤ 255) × (k ≤ 255) × (l ≤ 255) }
+    ensures { result ≡ pattern_at above i j k l }
 {
-    if above {
+    let condition = if above {
         Condition::First
     } else {
         Condition::Second
+    };
+    Pattern {
+        condition,
+        i: Position(i as u8),
+        j: Position(j as u8),
+        k: Position(k as u8),
+        l: Position(l as u8),
     }
 }
 
-// The larger of two numbers.
-fn larger(a: usize, b: usize) -> usize
-    ensures { result ≡ max a b }
-{
-    if a < b { b } else { a }
-}
-
-// The smaller of two numbers.
-fn smaller(a: usize, b: usize) -> usize
-    ensures { result ≡ min a b }
-{
-    if a < b { a } else { b }
-}
-
-// The position of the label next above a label, or where `above` is false next below it; 0 if there is none.
-fn place_next_to(places: &[u8; 257], label: usize, above: bool) -> usize
-    requires { (1 ≤ label) × (label ≤ 255) × (length places.now ≡ 257) }
-    ensures { PlaceNextTo places.now label above result }
-{
-    let place = Position(places[next_to(label, above)]);
-    place.0 as usize
-}
-
-// What completes position i, if anything does. The last position is told by its label. Where the next label lies above i's label, a pattern
-// of the first condition has the next position for j and for k the first one, at `turn`, where the labels turn below i's; a pattern of the
-// second has j there, and k where they first come back above. The other way round it is the same. The j of the one is the earlier one.
-fn complete(labels: &[u8], places: &[u8; 257], i: usize) -> Completion
-    requires fact_1 { EachOnce (label_at labels.now) (length labels.now) }
-    requires fact_2 { Places (label_at labels.now) (length labels.now) places.now }
-    requires fact_3 { (1 ≤ i) × (i < length labels.now) × (length labels.now ≤ 255) }
-    ensures { Completes (label_at labels.now) (length labels.now) i result }
-{
-    let label = label_at(labels, i);
-    let above = label < label_at(labels, i + 1);
-    let near = place_next_to(places, label, above);
-    let far = place_next_to(places, label, !above);
-    let turn = first_beyond(labels, i + 2, larger(near, far), !above, label);
-    if turn < near {
-        return Completion {
-            i,
-            above,
-            j: i + 1,
-            k: turn,
-            l: near,
-        };
+impl Placed<'_> {
+    // The label at a position.
+    fn label_at(&self, position: usize) -> usize
+        requires { (1 ≤ position) × (position ≤ length self.now.labels.now) }
+        ensures { (result ≡ label_at self.now.labels.now position) × (result ≤ 255) }
+    {
+        Label(self.labels[position - 1]).index()
     }
-    let back = first_beyond(labels, turn + 1, far, above, label);
-    Completion {
-        i,
-        above: !above,
-        j: turn,
-        k: back,
-        l: far,
-    }
-}
 
-// The first pattern that starts before position `to`, where none starts before position `from`.
-fn search(labels: &[u8], places: &[u8; 257], from: usize, to: usize) -> Completion
-    requires fact_1 { EachOnce (label_at labels.now) (length labels.now) }
-    requires fact_2 { Places (label_at labels.now) (length labels.now) places.now }
-    requires fact_3 { (1 ≤ from) × (from ≤ to) × (to ≤ length labels.now) × (length labels.now ≤ 255) }
-    requires fact_4 { NoneIn (label_at labels.now) (length labels.now) (StartsBefore from) }
-    ensures { SearchedTo (label_at labels.now) (length labels.now) to result }
-{
-    let mut i = from;
-    while i < to {
-        let found = complete(labels, places, i);
-        if found.k < found.l {
-            return found;
+    // The position of the label next above a label, or where `above` is false next below it. It is 0 if there is none: no position lies
+    // before that, so a search for a position before it finds none, and needs no test of whether there is one.
+    fn place_next_to(&self, label: usize, above: bool) -> usize
+        requires { (1 ≤ label) × (label ≤ 255) }
+        ensures { PlaceNextTo self.now.places.now label above result }
+    {
+        usize::from(self.places[next_to(label, above)])
+    }
+
+    // The first position from `from` on and before `to` whose label lies above a label, or where `above` is false does not.
+    fn first_beyond(&self, from: usize, to: usize, above: bool, label: usize) -> Option<usize>
+        requires { (1 ≤ from) × (to ≤ length self.now.labels.now) }
+        ensures { FirstBetween (Beyond (label_at self.now.labels.now) above label) from to result }
+    {
+        for at in from..to {
+            if (label < self.label_at(at)) == above {
+                return Some(at);
+            }
         }
-        i += 1;
+        None
     }
-    Completion {
-        i,
-        above: false,
-        j: i,
-        k: i,
-        l: i,
-    }
-}
 
-// The answer that names a pattern.
-fn named(found: Completion) -> PatternAnswer
-    requires { (found.i ≤ 255) × (found.j ≤ 255) × (found.k ≤ 255) × (found.l ≤ 255) }
-    ensures { result ≡ name_of found }
-{
-    PatternAnswer::Pattern(
-        condition_of(found.above),
-        Position(found.i as u8),
-        Position(found.j as u8),
-        Position(found.k as u8),
-        Position(found.l as u8),
-    )
-}
+    // The first pattern that starts at position i. The last position is told by its label. Where the next label lies above i's label, a
+    // pattern of the first condition has the next position for j and for k the first one, at `turn`, where the labels turn below i's; a
+    // pattern of the second has j there, and k where they first come back above. The other way round it is the same. The j of the one is
+    // the earlier one.
+    fn complete(&self, i: usize) -> Option<Pattern>
+        requires { (1 ≤ i) × (i < length self.now.labels.now) }
+        ensures { Completes (label_at self.now.labels.now) (length self.now.labels.now) i result }
+    {
+        let label = self.label_at(i);
+        let above = label < self.label_at(i + 1);
+        let near = self.place_next_to(label, above);
+        let far = self.place_next_to(label, !above);
+        let turn = self.first_beyond(i + 2, near.max(far), !above, label)?;
+        if turn < near {
+            return Some(pattern_at(above, i, i + 1, turn, near));
+        }
+        let back = self.first_beyond(turn + 1, far, above, label)?;
+        Some(pattern_at(!above, i, turn, back, far))
+    }
 
-// What is answered for the labels 1 to n, each once. Most lists that have a pattern have one that starts at the first few positions. Where
-// none does, Labels in tells whether to look on, in one pass.
-fn first_pattern(labels: &[u8], places: &[u8; 257]) -> PatternAnswer
-    requires fact_1 { Permutation labels.now }
-    requires fact_2 { Places (label_at labels.now) (length labels.now) places.now }
-    ensures { result ≡ pattern_answer labels.now }
-{
-    let n = labels.len();
-    let few = smaller(n, 4);
-    let early = search(labels, places, 1, few);
-    if early.k < early.l {
-        return named(early);
+    // The first pattern that starts before position `to`, where none starts before position `from`.
+    fn search(&self, from: usize, to: usize) -> Option<Pattern>
+        requires range { (1 ≤ from) × (from ≤ to) × (to ≤ length self.now.labels.now) }
+        requires none_before { NoneIn (label_at self.now.labels.now) (length self.now.labels.now) (StartsBefore from) }
+        ensures { SearchedTo (label_at self.now.labels.now) (length self.now.labels.now) to result }
+    {
+        for i in from..to {
+            if let Some(found) = self.complete(i) {
+                return Some(found);
+            }
+        }
+        None
     }
-    if let Verdict::Sound = labels::judge(labels) {
-        return PatternAnswer::NoPattern;
+
+    // The first pattern, if there is one. Most lists that have a pattern have one that starts at the first few positions. Where none does,
+    // Labels in tells whether to look on, in one pass.
+    fn first_pattern(&self) -> Option<Pattern>
+        ensures { Ok result ≡ pattern_answer self.now.labels.now }
+    {
+        let n = self.labels.len();
+        let few = n.min(4);
+        if let Some(early) = self.search(1, few) {
+            return Some(early);
+        }
+        if labels::judge(self.labels).is_ok() {
+            return None;
+        }
+        self.search(few, n)
     }
-    let late = search(labels, places, few, n);
-    named(late)
 }
 
 // The first barred pattern of a label list, or that there is none; or the refusal with 1, 6 or 7, which is the one of Labels in.
-pub fn pattern(labels: &[u8]) -> PatternAnswer
+pub fn pattern(labels: &[u8]) -> Result<Option<Pattern>, Refusal>
     ensures { result ≡ pattern_answer labels.now }
 {
     let mut places = [0u8; 257];
-    if list_places(labels, &mut places) {
-        return first_pattern(labels, &places);
-    }
-    match labels::judge(labels) {
-        Verdict::Sound => PatternAnswer::NoPattern,
-        Verdict::Refused(refusal) => PatternAnswer::Refused(refusal),
-    }
+    list_places(labels, &mut places)?;
+    let placed = Placed {
+        labels,
+        places: &places,
+    };
+    Ok(placed.first_pattern())
 }

@@ -1,13 +1,11 @@
 -- `searching::pattern` meets its contract: a list that is not the labels 1 to n, each once, is refused as by Labels in.
-use Rattle.record.specs.Judged.{Permutation}
-use Rattle.labels.specs.Verdicts.{verdict_refused}
-use Rattle.searching.proofs.Refused.{refused_answer}
+use mathlib.Core.Path.{◌≡◌, ◌∙◌}
+use borrow.Author.Rules.{rules}
+use Rattle.std.specs.Prelude.{Err}
+use Rattle.patterns.proofs.M105.{refused, m105_answer}
 use Rattle.searching.proofs.pattern.Goals as goal
-use Rattle.searching.proofs.pattern.Goals.{After-judge}
 
-not_permutation : (j : After-judge) → ¬ Permutation (j.args.labels.now)
-not_permutation j = rw j.if-list_places.false at j.list_places.ensures
-
-pub returns-in-Refused : goal.returns-in-Refused
-returns-in-Refused c =
-    refused_answer c.args.labels.now (not_permutation (goal.at.returns-in-Refused c).After-judge) (verdict_refused c.args.labels.now c.in-Refused.ensures)
+pub returns-in_err-list_places : goal.returns-in_err-list_places
+returns-in_err-list_places c =
+    let same : c.from_residual.result ≡ Err c.in_err-list_places.field-0.0 = search rules in
+    same ∙ m105_answer c.args.labels.now (refused c.in_err-list_places.ensures)
