@@ -1,12 +1,9 @@
-use Prim.Native.Nat.{◌≤◌, ◌-◌}
-use Rattle.finite.specs.Search.{Some}
+-- `shares_earlier` meets its contract: `found` marks whether a room before `i` shares a unit square with room `j`.
 use Rattle.finite.specs.Marks.{Marks}
+use Rattle.finite.specs.Search.{Some}
 use Rattle.rooms.specs.Causes.{ShareSquare}
-use Rattle.checks.proofs.Places.{corners}
+use Rattle.rooms.specs.Lists.{room_at}
 use Rattle.checks.proofs.shares_earlier.Given as goal
 
 abbrev pub invariant-loop-i : goal.invariant-loop-i
-invariant-loop-i l = (l.i ≤ l.j) × Marks l.found (Some (λ k. ShareSquare (corners l.left l.bottom l.right l.top k) (corners l.left l.bottom l.right l.top l.j)) 0 l.i)
-
-abbrev pub decreases-loop-i : goal.decreases-loop-i
-decreases-loop-i l = l.j - l.i
+invariant-loop-i l = Marks l.found (Some (λ k. ShareSquare (room_at l.lists k) (room_at l.lists l.j)) 0 l.i)
