@@ -7,21 +7,14 @@ ghost use Rattle.bits.specs.Bit.{group_at, GroupSet};
 ghost use Rattle.bits.specs.Word.{Shows, Stored};
 ghost use Rattle.bits.specs.Eight.{group_of_word, EightGroups};
 
-// A byte as a word.
-fn wide(byte: u8) -> u16
-    ensures { (result ≡ byte) × (result < 256) }
-{
-    byte as u16
-}
-
 // The word whose high byte is byte `at`. Where the bit worth 2 ^ lowest lies below the high byte, its low byte is the next one.
 fn load(bytes: &[u8], at: usize, lowest: usize) -> u16
     requires { (at < length bytes.now) × (lowest < 8 → at + 1 < length bytes.now) }
     ensures { Shows bytes.now at lowest result }
 {
-    let high = wide(bytes[at]) << 8;
+    let high = u16::from(bytes[at]) << 8;
     if lowest < 8 {
-        return high | wide(bytes[at + 1]);
+        return high | u16::from(bytes[at + 1]);
     }
     high
 }
@@ -56,14 +49,7 @@ pub fn set_group(bytes: &mut [u8], m: usize, i: usize, value: u8)
     let at = 3 * m + 3 * i / 8;
     let up = 13 - 3 * i % 8;
     let kept = load(bytes, at, up) & !(7 << up);
-    store(bytes, at, up, kept | (wide(value) << up));
-}
-
-// A byte as a number of 32 bits.
-fn broad(byte: u8) -> u32
-    ensures { (result ≡ byte) × (result < 256) }
-{
-    byte as u32
+    store(bytes, at, up, kept | (u16::from(value) << up));
 }
 
 // The eight groups from group 8m on, in a word of 24 bits; past the end of the bytes they are 0. Where fewer than three bytes are left,
@@ -74,11 +60,11 @@ pub fn eight_groups(bytes: &[u8], m: usize) -> u32
 {
     let at = 3 * m;
     let left = bytes.len() - at;
-    let high = broad(bytes[at]) * 65536;
+    let high = u32::from(bytes[at]) * 65536;
     if left < 3 {
-        return high + broad(bytes[bytes.len() - 1]) * 256 * ((left - 1) as u32);
+        return high + u32::from(bytes[bytes.len() - 1]) * 256 * ((left - 1) as u32);
     }
-    high + broad(bytes[at + 1]) * 256 + broad(bytes[at + 2])
+    high + u32::from(bytes[at + 1]) * 256 + u32::from(bytes[at + 2])
 }
 
 // Group i of such a word, a number from 0 to 7.

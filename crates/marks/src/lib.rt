@@ -7,13 +7,6 @@ ghost use Rattle.std.specs.Int.Bits.{bit_or};
 ghost use Rattle.finite.specs.Decide.{Tells};
 ghost use Rattle.marks.specs.Seen.{mark_of, with_label};
 
-// A byte as a number.
-fn wide(byte: u8) -> usize
-    ensures { (result ≡ byte) × (result < 256) }
-{
-    byte as usize
-}
-
 // A byte with one bit more.
 fn with_bit(byte: usize, bit: usize) -> usize
     requires { (byte < 256) × (bit < 8) }
@@ -24,12 +17,11 @@ fn with_bit(byte: usize, bit: usize) -> usize
 
 // Marks a label, and tells whether it was marked before.
 pub fn mark(seen: &mut [u8; 32], label: u8) -> bool
-    requires { length seen.old ≡ 32 }
     ensures was { Tells result (mark_of seen.old label ≡ 1) }
     ensures is { seen.new ≡ with_label seen.old label }
 {
-    let number = wide(label);
-    let before = wide(seen[number % 32]);
+    let number = usize::from(label);
+    let before = usize::from(seen[number % 32]);
     let after = with_bit(before, number / 32);
     seen[number % 32] = after as u8;
     before == after
@@ -40,5 +32,5 @@ pub fn mark_of(seen: &[u8; 32], label: usize) -> usize
     requires { label ≤ 256 }
     ensures { (result ≡ mark_of seen.now label) × (result ≤ 1) }
 {
-    (wide(seen[label % 32]) >> (label / 32)) & 1
+    (usize::from(seen[label % 32]) >> (label / 32)) & 1
 }

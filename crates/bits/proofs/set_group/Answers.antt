@@ -6,10 +6,7 @@ use Rattle.bits.proofs.set_group.Goals as goal
 
 pub returns : goal.returns
 returns c =
-    let stored = c in
-    let widened = stored.wide in
-    let loaded = stored.load in
-    let a = stored.args in
-    rw (← widened.ensures.0)
-    (group_of_eight_set a.bytes.now stored.store.new.bytes a.m a.i loaded.result widened.result (omega arith) (omega arith)
-    loaded.ensures stored.store.ensures)
+    let a = c.args in
+    rw (← c.from.ensures)
+    (group_of_eight_set a.bytes.now c.store.new.bytes a.m a.i c.load.result c.from.result (omega arith) (omega arith)
+    c.load.ensures c.store.ensures)

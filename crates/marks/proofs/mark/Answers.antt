@@ -33,5 +33,5 @@ pub returns-clause-was : goal.returns-clause-was
 returns-clause-was c =
     let a = c.args in
     let seen : List ℕ = a.seen.now in
-    rw (c.with_bit-after.ensures.0, c.wide-before.ensures.0, c.wide-number.ensures.0)
+    rw (c.with_bit-after.ensures.0, c.from-before.ensures, c.from-number.ensures)
     (or-tells (get_or seen (a.label % 32) 0) (a.label / 32))
