@@ -1,6 +1,7 @@
 -- `load` meets its contract. What is known of the bytes that were read makes the word's quotient and remainder by 256 those bytes,
 -- and the list then shows the word, by one law for one byte and one for two.
 use mathlib.Core.Path.{sym}
+use native.Mathlib.Omega.{arith}
 use Rattle.bits.proofs.Word.{shows_one, shows_two}
 use Rattle.bits.proofs.load.Goals as goal
 
