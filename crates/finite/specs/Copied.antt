@@ -1,4 +1,4 @@
--- The front of an array, copied to the front of a slice: as the kit's `bytes::copy` leaves it, and as a contract says it.
+-- The front of an array, copied to the front of a slice: as a copy of so many bytes leaves it, and as a contract says it.
 use Rattle.std.specs.Prelude.{List, ◌++◌, ◌≡◌, ℕ, length, take, drop}
 use Rattle.std.proofs.Common.{sym, ap, ◌∙◌}
 use Rattle.std.proofs.Math.Seq.{take-length}
