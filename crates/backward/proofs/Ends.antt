@@ -140,8 +140,6 @@ written_first t n labels corners = record {
   labels_are = filling_none (λ i. label_of t n (suc i)) n labels;
   rights_are = filling_none (end_at t n up) n corners.right;
   tops_are = filling_none (end_at t n down) n corners.top;
-  lefts_kept = refl;
-  bottoms_kept = refl;
 }
 
 -- at index i comes one more of each
@@ -156,6 +154,4 @@ module _ {t : ℕ → Triple} {n : ℕ} {labels₀ labels : List ℕ} {corners�
         labels_are = filling_down label w.labels_are within (omega arith) l;
         rights_are = filling_down end-right w.rights_are within (omega arith) (sym s.right_is);
         tops_are = filling_down end-up w.tops_are within (omega arith) (sym s.up_is);
-        lefts_kept = w.lefts_kept;
-        bottoms_kept = w.bottoms_kept;
       }

@@ -1,5 +1,5 @@
 -- What the walk back leaves: the labels, and of each position the one that first comes to lie beyond its run, less 1.
-use Rattle.std.specs.Prelude.{List, ◌≡◌, ℕ, suc, ◌-◌}
+use Rattle.std.specs.Prelude.{List, ℕ, suc, ◌-◌}
 use Rattle.finite.specs.Fill.{Filling}
 use Rattle.record.specs.Triple.{Triple}
 use Rattle.record.specs.Way.{Way, up, down}
@@ -11,10 +11,8 @@ use Rattle.drawing.specs.declared.Corners.{Corners}
 abbrev pub end_at : (ℕ → Triple) → (n : ℕ) → Way → (i : ℕ) → ℕ
 end_at triples n way i = (entered_but triples n (n - suc i)).current way
 
--- from index a on, the labels and the rooms' rights and tops are written, and all else is as it was
+-- from index a on, a slice has the labels and the rooms have their rights and tops; before that all three are as they were
 pub record Written (triples : ℕ → Triple) (n a : ℕ) (labels₀ : List ℕ) (corners₀ : Corners) (labels : List ℕ) (corners : Corners) : Type 0 where
   pub labels_are : Filling (λ i. label_of triples n (suc i)) a n labels₀ labels
   pub rights_are : Filling (end_at triples n up) a n corners₀.right corners.right
   pub tops_are : Filling (end_at triples n down) a n corners₀.top corners.top
-  pub lefts_kept : corners.left ≡ corners₀.left
-  pub bottoms_kept : corners.bottom ≡ corners₀.bottom

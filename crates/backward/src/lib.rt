@@ -25,7 +25,8 @@ pub fn walk(
     requires accepted { (earliest < n) × (n ≤ 255) × (length body.now ≡ body_length n) × Accepted (triple_in body.now) n }
     requires noted { Unpacked (triple_in body.now) n notes.now.triples × Lowers (triple_in body.now) n notes.now.lower }
     requires room { n ≤ length labels.old }
-    ensures { Written (triple_in body.now) n earliest labels.old corners.old labels.new corners.new }
+    ensures written { Written (triple_in body.now) n earliest labels.old corners.old labels.new corners.new }
+    ensures kept { (corners.new.left ≡ corners.old.left) × (corners.new.bottom ≡ corners.old.bottom) }
 {
     // Four stacks in arrays of their own: a side's two have one height, its count of runs, which a struct of both would hold once more.
     let mut below = [0u8; 255];

@@ -1,5 +1,5 @@
 -- `backward::walk` meets its contract. Between two turns hold Left of Back, for the labels, and EndsAt of Ends, for the ends; what is written from the back is Written.
-use Rattle.std.proofs.Common.{◌≡◌, ap, subst, ◌∙◌, ℕ, suc, ◌+◌, ◌-◌, ◌≤◌, ◌<◌, arith, rules}
+use Rattle.std.proofs.Common.{◌≡◌, refl, ap, subst, ◌∙◌, ℕ, suc, ◌+◌, ◌-◌, ◌≤◌, ◌<◌, arith, rules}
 use Rattle.std.proofs.Math.ListN.{set}
 use Rattle.record.specs.Record.{triple_in}
 use Rattle.record.specs.Triple.{Triple}
@@ -75,6 +75,8 @@ loop-i-init c =
       ends = ends_first t c.args.n some;
       written = written_first t c.args.n c.args.labels.now c.args.corners.now;
       more = c.requires.accepted.0;
+      left_kept = refl;
+      bottom_kept = refl;
     }
 
 pub overflow_add-label : goal.overflow_add-label
@@ -129,6 +131,8 @@ loop-i-preserved c =
           (c.chosen-end_right.ensures ∙ ap (either w.rises i) c.from-in-loop-i-4.ensures);
       written = written_on c.requires.room (search rules) (search rules) l.invariant.written (omega arith) left.within ends label;
       more = omega (arith, c.loop-i-test.true);
+      left_kept = l.invariant.left_kept;
+      bottom_kept = l.invariant.bottom_kept;
     }
 
 pub overflow_add-label-2 : goal.overflow_add-label-2
@@ -143,9 +147,9 @@ overflow_cast-corners-2 c = omega (arith, ends_small (triple_in c.args.body.now)
 pub overflow_cast-corners-3 : goal.overflow_cast-corners-3
 overflow_cast-corners-3 c = omega (arith, ends_small (triple_in c.args.body.now) c.args.n (c.loop-i.i - 1) c.loop-i.invariant.ends, c.requires.accepted.1)
 
-pub returns : goal.returns
-returns c =
+pub returns-clause-written : goal.returns-clause-written
+returns-clause-written c =
     let l = c.loop-i in
-    let e = (goal.at.returns c).After-from-2 in
+    let e = (goal.at.returns-clause-written c).After-from-2 in
     let ends = subst (λ (i : ℕ). EndsAt (triple_in c.args.body.now) c.args.n i l.tops l.rights l.runs.below l.runs.above l.end_up l.end_right) (last_index e) l.invariant.ends in
     written_on c.requires.room (search rules) (search rules) l.invariant.written (last e) c.requires.accepted.0 ends (last-label e).1
