@@ -127,7 +127,7 @@ module _ {labels : List ℕ} {k : ℕ} {seen : List ℕ} {below above : List Lab
       omega arith
 
   -- what the marks say
-  pub seen_long : length seen ≡ 32
+  seen_long : length seen ≡ 32
   seen_long = ap length s.seen_is ∙ long_after (λ i. get_or labels i 0) (suc k)
 
   marked : (x : ℕ) → Marks (mark_of seen x) (Seen f (suc k) x)

@@ -17,7 +17,7 @@ use Rattle.record.specs.TripleSet.{TripleSet}
 use Rattle.encoding.specs.Encoded.{PastRuns}
 use Rattle.marks.specs.Seen.{mark_of, with_label}
 use Rattle.encoding.proofs.Stack.{label_in}
-use Rattle.encoding.proofs.Passed.{Passed, label, seen_long, first_bit_lem, second_bit, third_bit, away_past, away_seen, enough_below, enough_above, taken_passed}
+use Rattle.encoding.proofs.Passed.{Passed, label, first_bit_lem, second_bit, third_bit, away_past, away_seen, enough_below, enough_above, taken_passed}
 
 -- a label that is taken, with the three bits of its triple
 pub record Taken (labels : List ℕ) (k : ℕ) (seen : List ℕ) (below above : List Label) (p q last : ℕ) (written : List ℕ) (w first second third : ℕ) : Type 0 where
@@ -30,7 +30,6 @@ pub record Taken (labels : List ℕ) (k : ℕ) (seen : List ℕ) (below above : 
 pub record Turn (labels : List ℕ) (k : ℕ) (seen : List ℕ) (below above : List Label) (p q last : ℕ) (written : List ℕ) (w : ℕ) : Type 0 where
   pub low : 1 ≤ w
   pub high : w ≤ 255
-  pub seen_long : length seen ≡ 32
   pub room_below : p + 1 < 255
   pub room_above : q + 1 < 255
   pub away_past : PastRuns w (label_in below p) (label_in above q) → ¬ Baxter labels
@@ -45,7 +44,6 @@ unfolding triple_at
 turn_of_lem {labels} {k} {seen} {below} {above} {p} {q} {last} {written} s more few inside = subst (λ (i : ℕ). Turn labels k seen below above p q last written (get_or labels i 0)) (sym (add-one k)) record {
   low = (label s more few inside).0;
   high = (label s more few inside).1;
-  seen_long = seen_long s more few inside;
   room_below = omega (arith, s.few);
   room_above = omega (arith, s.few);
   away_past = away_past s more few inside;

@@ -62,9 +62,6 @@ loop-i-init c = passed_as c.loop-m.invariant (omega arith)
 pub returns-then-next-n : goal.returns-then-next-n
 returns-then-next-n c = passed_all c.loop-i.invariant (omega (arith, c.if-next-n.true)) c.requires.count.1 c.requires.inside
 
-pub mark-requires-in-loop-i : goal.mark-requires-in-loop-i
-mark-requires-in-loop-i c = (turn (goal.at.mark-requires-in-loop-i c).After-index-at).seen_long
-
 pub returns-then-mark : goal.returns-then-mark
 returns-then-mark c = (turn (goal.at.returns-then-mark c).After-index-at).away_seen (told c.if-mark.true c.mark-in-loop-i.ensures.was)
 

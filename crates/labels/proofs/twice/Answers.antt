@@ -5,11 +5,10 @@ use mathlib.Core.Path.{◌≡◌, refl, sym, ap, subst, ◌∙◌}
 use Prim.Native.Nat.{ℕ, suc, ◌+◌}
 use native.Mathlib.Omega.{arith}
 use native.Mathlib.Numerals.{add-one}
-use lib.ListN.{length, get_or}
+use lib.ListN.{get_or}
 use Rattle.finite.specs.Decide.{told, told_not}
 use Rattle.finite.specs.Marks.{Marks, marks_holds, marks_fails}
 use Rattle.marks.specs.Seen.{mark_of, with_label, seen_after}
-use Rattle.marks.specs.M110.{seen_long}
 use Rattle.encoding.specs.Marked.{seen_of, marked_earlier}
 use Rattle.labels.proofs.Found.{found_before}
 use Rattle.labels.proofs.twice.Goals as goal
@@ -28,9 +27,6 @@ seen_more labels seen after i e f = rw (add-one i) (f ∙ ap (λ (seen : List �
 pub loop-label-init : goal.loop-label-init
 unfolding seen_after
 loop-label-init c = (refl, λ (j, a, b, t). omega arith)
-
-pub mark-requires : goal.mark-requires
-mark-requires c = ap length c.loop-label.invariant.0 ∙ seen_long _ _
 
 pub returns-then-mark : goal.returns-then-mark
 returns-then-mark c =
