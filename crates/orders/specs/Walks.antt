@@ -1,8 +1,9 @@
 -- What is asked of the rooms whose corners stand in four lists, so that they can be walked in the order of their ranks.
 use Rattle.std.specs.Prelude.{List, ℕ, ◌+◌, ◌*◌, ◌≤◌, length}
 use Rattle.rooms.specs.LabelList.{label_of, position_of}
+use Rattle.rooms.specs.Lists.{rooms_in}
+use Rattle.rooms.specs.declared.CornerLists.{CornerLists}
 use Rattle.points.specs.Listed.{number_at}
-use Rattle.corners.specs.ListPlan.{rooms_from}
 use Rattle.orders.specs.Joined.{Linked}
 use Rattle.orders.specs.Ranked.{Ranked}
 use Rattle.orders.specs.Sized.{Sized}
@@ -32,6 +33,6 @@ pub record Walks (left bottom right top links others : List ℕ) (ranks : ℕ �
   pub linked : Linked (length left) (number_at left) (number_at bottom) (number_at right) (number_at top) x y (number_at links) (number_at others)
 
 -- in both orders: that of positions and, with bottom and top exchanged, that of labels
-pub record WalkBoth (left bottom right top up down : List ℕ) (first-up first-down : ℕ) : Type 0 where
-  pub by_position : WalkFrom left bottom right top up first-up (position_of (rooms_from left bottom right top))
-  pub by_label : WalkFrom left top right bottom down first-down (label_of (rooms_from left bottom right top))
+pub record WalkBoth (lists : CornerLists) (up down : List ℕ) (first-up first-down : ℕ) : Type 0 where
+  pub by_position : WalkFrom lists.left.now lists.bottom.now lists.right.now lists.top.now up first-up (position_of (rooms_in lists))
+  pub by_label : WalkFrom lists.left.now lists.top.now lists.right.now lists.bottom.now down first-down (label_of (rooms_in lists))

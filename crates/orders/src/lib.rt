@@ -6,24 +6,13 @@ ghost use Rattle.std.specs.Prelude.{◌≡◌, List, ℕ, ◌*◌, ◌≤◌, le
 ghost use Rattle.finite.specs.Fill.{filled};
 ghost use Rattle.drawing.specs.declared.Room.{Room};
 ghost use Rattle.rooms.specs.LabelList.{label_list};
-ghost use Rattle.corners.specs.ListPlan.{rooms_from};
+ghost use Rattle.rooms.specs.Lists.{count_of, rooms_in};
 ghost use Rattle.orders.specs.InOrder.{InBothOrders, Ranking, Numbered, LabelsInOrder};
 ghost use Rattle.orders.specs.PairedPlan.{PairedPlan};
 ghost use Rattle.orders.specs.Turns.{LinksWithin, Turned};
 ghost use Rattle.orders.specs.Walks.{WalkBoth};
 
-// A number as an index.
-fn wide(number: u16) -> usize
-    ensures { (result ≡ number) × (result ≤ 65535) }
-{
-    number as usize
-}
-
-fn wide_byte(byte: u8) -> usize
-    ensures { (result ≡ byte) × (result ≤ 255) }
-{
-    byte as usize
-}
+use rooms::CornerLists;
 
 // ---- the order
 
@@ -32,25 +21,20 @@ fn wide_byte(byte: u8) -> usize
 // down to room d goes on at d where a room is under d, and a link aside where a room is beside d.
 fn turn(links: &[u16], count: usize, turned: &mut [u16])
     requires links_within { LinksWithin count links.now }
-    requires count_in_bounds { count ≤ length turned.old }
+    requires places { count ≤ length turned.old }
     ensures { Turned count links.now turned.new }
 {
-    let mut j = 0;
-    while j < count {
-        let link = wide(links[j]);
+    for j in 0..count {
+        let link = usize::from(links[j]);
         let room = link / 2 * 2;
-        turned[j] = (room + (link + wide(links[room])) % 2) as u16;
-        j += 1;
+        turned[j] = (room + (link + usize::from(links[room])) % 2) as u16;
     }
 }
 
 // The rooms by position, from the first one by the links `up`, and by label, from the first one by the links `down`. A step of the one walk
 // waits for a load, so the other goes beside it. The corners are not looked at; they say how far the walks have come.
 fn walk(
-    left: &[u16],
-    bottom: &[u16],
-    right: &[u16],
-    top: &[u16],
+    lists: &CornerLists,
     up: &[u16],
     down: &[u16],
     first_up: usize,
@@ -58,62 +42,56 @@ fn walk(
     by_position: &mut [u8],
     by_label: &mut [u8],
 )
-    requires walk_both { WalkBoth left.now bottom.now right.now top.now up.now down.now first_up first_down }
-    requires left_in_bounds { (length left.now ≤ length by_position.old) × (length left.now ≤ length by_label.old) }
-    ensures { InBothOrders (rooms_from left.now bottom.now right.now top.now)
-        (length left.now) by_position.new by_label.new }
+    requires walk_both { WalkBoth lists.now up.now down.now first_up first_down }
+    requires places { (count_of lists.now ≤ length by_position.old) × (count_of lists.now ≤ length by_label.old) }
+    ensures { InBothOrders (rooms_in lists.now) (count_of lists.now) by_position.new by_label.new }
 {
-    let n = left.len();
+    let n = lists.len();
     let mut at = 2 * first_up + 1;
     let mut k = 0;
     let mut other = 2 * first_down + 1;
     let mut j = 0;
+    // A while: a turn comes to the next room of an order, or only nearer to it.
     while k + j < 2 * n {
         if k < n {
             by_position[k] = (at / 2) as u8;
             k += at % 2;
-            at = wide(up[at]);
+            at = usize::from(up[at]);
         }
         if j < n {
             by_label[j] = (other / 2) as u8;
             j += other % 2;
-            other = wide(down[other]);
+            other = usize::from(down[other]);
         }
     }
 }
 
-// The rooms by position and by label, of paired corners, in arrays for the turned links. The pairs lead upward from room to room the one
-// way and downward the other way, and the corners of the outline that the two orders start from are paired with those of their first rooms.
-fn walk_both(
-    left: &[u16],
-    bottom: &[u16],
-    right: &[u16],
-    top: &[u16],
+// The rooms by position and by label, of paired corners, with arrays for so many turned links. The pairs lead upward from room to room the
+// one way and downward the other way, and the corners of the outline that the two orders start from are paired with those of their first
+// rooms.
+fn orders_with<const LINKS: usize>(
+    lists: &CornerLists,
     there: &[u16],
     back: &[u16],
-    up: &mut [u16],
-    down: &mut [u16],
     by_position: &mut [u8],
     by_label: &mut [u8],
 )
-    requires paired_plan { PairedPlan left.now bottom.now right.now top.now there.now back.now }
-    requires left_in_bounds { (2 * length left.now ≤ length up.old) × (2 * length left.now ≤ length down.old) }
-    requires left_in_bounds_2 { (length left.now ≤ length by_position.old) × (length left.now ≤ length by_label.old) }
-    ensures { InBothOrders (rooms_from left.now bottom.now right.now top.now)
-        (length left.now) by_position.new by_label.new }
+    requires links { (2 * count_of lists.now ≤ LINKS) × (LINKS ≤ 512) }
+    requires paired_plan { PairedPlan lists.now there.now back.now }
+    requires places { (count_of lists.now ≤ length by_position.old) × (count_of lists.now ≤ length by_label.old) }
+    ensures { InBothOrders (rooms_in lists.now) (count_of lists.now) by_position.new by_label.new }
 {
-    let n = left.len();
-    turn(back, 2 * n, up);
-    turn(there, 2 * n, down);
-    let first_up = wide(there[2 * n]) / 2;
-    let first_down = wide(back[2 * n]) / 2;
+    let mut up = [0u16; LINKS];
+    let mut down = [0u16; LINKS];
+    let n = lists.len();
+    turn(back, 2 * n, &mut up);
+    turn(there, 2 * n, &mut down);
+    let first_up = usize::from(there[2 * n]) / 2;
+    let first_down = usize::from(back[2 * n]) / 2;
     walk(
-        left,
-        bottom,
-        right,
-        top,
-        up,
-        down,
+        lists,
+        &up,
+        &down,
         first_up,
         first_down,
         by_position,
@@ -123,93 +101,42 @@ fn walk_both(
 
 // The same, with arrays for as many links as there are: short ones are soon cleared.
 fn both_orders(
-    left: &[u16],
-    bottom: &[u16],
-    right: &[u16],
-    top: &[u16],
+    lists: &CornerLists,
     there: &[u16],
     back: &[u16],
     by_position: &mut [u8],
     by_label: &mut [u8],
 )
-    requires paired_plan { PairedPlan left.now bottom.now right.now top.now there.now back.now }
-    requires left_in_bounds { (length left.now ≤ length by_position.old) × (length left.now ≤ length by_label.old) }
-    ensures { InBothOrders (rooms_from left.now bottom.now right.now top.now)
-        (length left.now) by_position.new by_label.new }
+    requires paired_plan { PairedPlan lists.now there.now back.now }
+    requires places { (count_of lists.now ≤ length by_position.old) × (count_of lists.now ≤ length by_label.old) }
+    ensures { InBothOrders (rooms_in lists.now) (count_of lists.now) by_position.new by_label.new }
 {
-    if left.len() <= 15 {
-        let mut up = [0u16; 32];
-        let mut down = [0u16; 32];
-        walk_both(
-            left,
-            bottom,
-            right,
-            top,
-            there,
-            back,
-            &mut up,
-            &mut down,
-            by_position,
-            by_label,
-        );
-        return;
+    if lists.len() <= 15 {
+        return orders_with::<32>(lists, there, back, by_position, by_label);
     }
-    if left.len() <= 63 {
-        let mut up = [0u16; 128];
-        let mut down = [0u16; 128];
-        walk_both(
-            left,
-            bottom,
-            right,
-            top,
-            there,
-            back,
-            &mut up,
-            &mut down,
-            by_position,
-            by_label,
-        );
-        return;
+    if lists.len() <= 63 {
+        return orders_with::<128>(lists, there, back, by_position, by_label);
     }
-    let mut up = [0u16; 512];
-    let mut down = [0u16; 512];
-    walk_both(
-        left,
-        bottom,
-        right,
-        top,
-        there,
-        back,
-        &mut up,
-        &mut down,
-        by_position,
-        by_label,
-    );
+    orders_with::<512>(lists, there, back, by_position, by_label)
 }
 
 // ---- positions and labels
 
 // The rank of each of the `n` rooms, at its place in the list, from the rooms in their order.
 fn rank_all(by: &[u8], n: usize, ranks: &mut [u8])
-    requires by_index { (f : ℕ → ℕ) × Ranking n by.now f }
-    requires n_bound { (n ≤ 255) × (n ≤ length ranks.old) }
+    requires ranked { (f : ℕ → ℕ) × Ranking n by.now f }
+    requires places { (n ≤ 255) × (n ≤ length ranks.old) }
     ensures { (f : ℕ → ℕ) → Ranking n by.now f → ranks.new ≡ filled f n ranks.old }
 {
-    let mut k = 0;
-    while k < n {
-        let room = wide_byte(by[k]);
-        k += 1;
-        ranks[room] = k as u8;
+    for k in 0..n {
+        ranks[usize::from(by[k])] = (k + 1) as u8;
     }
 }
 
 // From the front of the slices the label and the position of each room, at its place in the list, and the rooms by position. `by_label` is
 // for the rooms by label.
 pub fn labels_and_positions(
-    left: &[u16],
-    bottom: &[u16],
-    right: &[u16],
-    top: &[u16],
+    lists: &CornerLists,
     there: &[u16],
     back: &[u16],
     by_position: &mut [u8],
@@ -217,16 +144,15 @@ pub fn labels_and_positions(
     labels: &mut [u8],
     positions: &mut [u8],
 )
-    requires paired_plan { PairedPlan left.now bottom.now right.now top.now there.now back.now }
-    requires left_in_bounds { (length left.now ≤ length by_position.old) × (length left.now ≤ length by_label.old) }
-    requires left_in_bounds_2 { (length left.now ≤ length labels.old) × (length left.now ≤ length positions.old) }
-    ensures { Numbered (rooms_from left.now bottom.now right.now top.now)
-        (length left.now) by_position.new labels.old labels.new
+    requires paired_plan { PairedPlan lists.now there.now back.now }
+    requires order_places { (count_of lists.now ≤ length by_position.old) × (count_of lists.now ≤ length by_label.old) }
+    requires rank_places { (count_of lists.now ≤ length labels.old) × (count_of lists.now ≤ length positions.old) }
+    ensures { Numbered (rooms_in lists.now) (count_of lists.now) by_position.new labels.old labels.new
         positions.old positions.new }
 {
-    both_orders(left, bottom, right, top, there, back, by_position, by_label);
-    rank_all(by_label, left.len(), labels);
-    rank_all(by_position, left.len(), positions);
+    both_orders(lists, there, back, by_position, by_label);
+    rank_all(by_label, lists.len(), labels);
+    rank_all(by_position, lists.len(), positions);
 }
 
 // ---- the label list
@@ -238,9 +164,7 @@ pub fn label_list(labels: &[u8], by: &[u8], n: usize, list: &mut [u8])
     ensures { (rooms : List Room) → LabelsInOrder rooms n labels.now by.now
         → take n list.new ≡ label_list rooms }
 {
-    let mut k = 0;
-    while k < n {
-        list[k] = labels[wide_byte(by[k])];
-        k += 1;
+    for k in 0..n {
+        list[k] = labels[usize::from(by[k])];
     }
 }
