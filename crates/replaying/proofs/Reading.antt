@@ -5,11 +5,13 @@ use mathlib.Core.Path.{◌≡◌, refl, sym, ap, ◌∙◌}
 use Prim.Native.Nat.{ℕ, zero, suc, ◌+◌, ◌≤◌, ◌<◌}
 use native.Mathlib.Decide.{dec_lt}
 use native.Mathlib.Omega.{arith}
+use Rattle.std.specs.Prelude.{Some, None, slice_get}
+use Rattle.std.proofs.lemmas.Option.{slice_get_cases, get_or_from_slice_get}
 use lib.ListN.{length, get_or, drop, drop_of_length-le}
 use lib.Seq.{drop-cons}
 use Rattle.record.specs.TripleNumber.{triple_of}
 use Rattle.traces.specs.Bytes.{unknown_kind, missing_body, above_7, bad→unknown}
-use Rattle.replaying.specs.Turn.{back_move, Body}
+use Rattle.replaying.specs.Turn.{back_move}
 use Rattle.traces.specs.Move.{add, take_away, claim, unknown, moves_of}
 
 module _ (xs : List ℕ) (at : ℕ) (h : at < length xs) where
@@ -35,17 +37,28 @@ module _ (xs : List ℕ) (at : ℕ) (h : at < length xs) where
     pub one_large : ¬ (get_or xs (at + 1) 0 < 8) → moves_of (drop at xs) ≡ unknown ∷ []
     one_large large = ap moves_of one_and_body ∙ bad→unknown (above_7 large)
 
-  -- by the body that was read, or that is missing
-  module _ (e : get_or xs at 0 ≡ 1) {body : ℕ} where
-    pub one_bad : Body xs at body → 7 < body → moves_of (drop at xs) ≡ unknown ∷ []
-    one_bad (inl (l, is)) large = one_large e l (omega arith)
-    one_bad (inr (l, is)) large = one_alone e l
+  -- by its body, if it has one
+  module _ (e : get_or xs at 0 ≡ 1) where
+    pub one_missing : slice_get xs (at + 1) ≡ None → moves_of (drop at xs) ≡ unknown ∷ []
+    one_missing none = elim (slice_get_cases xs (at + 1)).1 [
+      | inl (x, l, is, read) ↦ cc
+      | inr (l, is) ↦ one_alone e l
+    ]
 
-    pub one_good : Body xs at body → body ≤ 7
+    body_there : {body : ℕ} → slice_get xs (at + 1) ≡ Some body → (at + 1 < length xs) × (get_or xs (at + 1) 0 ≡ body)
+    body_there {body} some = elim (slice_get_cases xs (at + 1)).1 [
+      | inl (x, l, is, read) ↦ (l, get_or_from_slice_get xs (at + 1) body 0 some)
+      | inr (l, is) ↦ cc
+    ]
+
+    pub one_bad : {body : ℕ} → slice_get xs (at + 1) ≡ Some body → 7 < body → moves_of (drop at xs) ≡ unknown ∷ []
+    one_bad some large = let (l, is) = body_there some in one_large e l (omega arith)
+
+    pub one_good : {body : ℕ} → slice_get xs (at + 1) ≡ Some body → body ≤ 7
         → (at + 2 ≤ length xs) × (moves_of (drop at xs) ≡ add (triple_of body) ∷ moves_of (drop (at + 2) xs))
-    one_good (inl (l, is)) small =
-        (omega arith, one_small e l (omega arith) ∙ ap (λ (b : ℕ). add (triple_of b) ∷ moves_of (drop (at + 2) xs)) (sym is))
-    one_good (inr (l, is)) small = absurd (omega arith)
+    one_good some small =
+        let (l, is) = body_there some in
+        (omega arith, one_small e l (omega arith) ∙ ap (λ (b : ℕ). add (triple_of b) ∷ moves_of (drop (at + 2) xs)) is)
 
   -- kinds 2 and 3, and all others
   pub two : get_or xs at 0 ≡ 2 → moves_of (drop at xs) ≡ take_away ∷ moves_of (drop (at + 1) xs)

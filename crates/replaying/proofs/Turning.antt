@@ -16,7 +16,8 @@ use Rattle.traces.specs.Cause.{Refuses, past_255, missing_run, only_room, severa
 use Rattle.traces.specs.Still.{Built, grown}
 use Rattle.traces.proofs.Still.{built_few, Counted, counted}
 use Rattle.replaying.specs.Packed.{packed, row_of, CountsRuns}
-use Rattle.replaying.specs.Turn.{packed_of, Stands, Kept, back_move, GoesBack}
+use Rattle.replaying.specs.declared.Plan.{Plan}
+use Rattle.replaying.specs.Turn.{Fits, packed_of, Stands, Kept, back_move, GoesBack}
 use Rattle.replaying.proofs.Lands.{Lacks, Lands, lands, lands_missing, lands_there}
 
 -- ---- the numbers of a state
@@ -30,12 +31,21 @@ module _ {present : List Triple} (b : Built present) where
       let few = built_few b in
       (omega (arith, packed_is c), omega (arith, packed_is c, c.few, few))
 
-module _ {present : List Triple} {rooms number : ℕ} (s : Stands present rooms number) where
+module _ {present : List Triple} {plan : Plan} (s : Stands present plan) where
+  abbrev rooms : ℕ
+  rooms = plan.rooms
+
+  abbrev number : ℕ
+  number = plan.counts
+
   pub stands_few : (1 ≤ rooms) × (rooms ≤ 255)
   stands_few = (omega (arith, s.rooms_are), omega (arith, s.rooms_are, built_few s.built))
 
   pub stands_small : (257 ≤ number) × (number ≤ 65535)
   stands_small = let small = packed_small s.built in (omega (arith, s.counts_are, small.0), omega (arith, s.counts_are, small.1))
+
+  pub stands_fit : Fits plan
+  stands_fit = (stands_few.0, stands_few.1, stands_small.0, stands_small.1)
 
   -- the runs
   pub stands_runs : {runs : ℕ} → CountsRuns number runs → runs ≡ runs_of present
@@ -78,7 +88,7 @@ module _ {present : List Triple} {rooms number : ℕ} (s : Stands present rooms 
       pub added_makes : Makes (add t) present (t ∷ present)
       added_makes = added {t = t} {present = present} few_after there.0
 
-      pub added_stands : Stands (t ∷ present) (rooms + 1) (number + row - 256)
+      pub added_stands : Stands (t ∷ present) (record { rooms = rooms + 1; counts = number + row - 256 })
       added_stands = record {
         built = grown {t = t} {present = present} few_after there.0 s.built;
         rooms_are = omega (arith, s.rooms_are);
@@ -88,7 +98,7 @@ module _ {present : List Triple} {rooms number : ℕ} (s : Stands present rooms 
 -- ---- a move goes back, by its kind
 module _ (present : List Triple) (b : Built present) (kept : List ℕ) (k : Kept packed_of present kept)
     {rooms : ℕ} (is : rooms ≡ rooms_of present)
-    {kind wide left : ℕ} (told : wide ≡ kind) (left_is : left ≡ rooms + wide - 3) where
+    {kind left : ℕ} (left_is : left ≡ rooms + kind - 3) where
   -- to no room at all
   pub back_only : 2 ≤ kind → left ≡ 0 → Refuses (back_move kind) present OnlyRoom
   back_only some none = go kind present (omega arith) some
@@ -115,7 +125,7 @@ module _ (present : List Triple) (b : Built present) (kept : List ℕ) (k : Kept
           let several : Several (counts c.below c.above) = omega (arith, read_is, packed_is b c, h) in
           subst (λ (j : ℕ). Refuses (back_move j) present SeveralRuns) (sym three) (several_runs (subst Several (sym c.are) several))
 
-      pub back_claim : v ≡ 257 → GoesBack kind present kept left v
+      pub back_claim : v ≡ 257 → GoesBack kind present kept (record { rooms = left; counts = v })
       back_claim h = record {
         state = present;
         makes =
@@ -129,13 +139,13 @@ module _ (present : List Triple) (b : Built present) (kept : List ℕ) (k : Kept
           one m = omega (arith, read_is, packed_is b (counted b))
 
     -- kind 2
-    pub back_take : kind ≡ 2 → left ≢ 0 → GoesBack kind present kept left v
+    pub back_take : kind ≡ 2 → left ≢ 0 → GoesBack kind present kept (record { rooms = left; counts = v })
     back_take two some = go present b k (omega arith)
       where
         go : (present : List Triple) → Built present → Kept packed_of present kept → left + 1 ≡ rooms_of present
-            → GoesBack kind present kept left v
+            → GoesBack kind present kept (record { rooms = left; counts = v })
         go [] b k e = absurd (some (omega arith))
-        go (t ∷ present) (grown few there b) k e =
+        go (t ∷ present) (grown few some_runs b) k e =
             let place : left ≡ rooms_of present = omega arith in
             record {
               state = present;

@@ -1,5 +1,5 @@
 -- What one move makes of the numbers, told of the state that they stand for.
-use Rattle.std.specs.Prelude.{List, [], ◌∷◌, ◌⊎◌, ◌≡◌, ℕ, zero, suc, ◌+◌, ◌≤◌, ◌<◌, length, get_or, drop}
+use Rattle.std.specs.Prelude.{List, [], ◌∷◌, ◌≡◌, ℕ, zero, suc, ◌+◌, ◌≤◌, ◌<◌, length, get_or, drop, Result, Ok, Err}
 use Rattle.record.specs.Triple.{Triple}
 use Rattle.record.specs.declared.Refusal.{Refusal}
 use Rattle.traces.specs.Move.{Move, add, take_away, claim, moves_of}
@@ -8,16 +8,17 @@ use Rattle.traces.specs.Cause.{Refuses, Makes}
 use Rattle.traces.specs.Still.{Built}
 use Rattle.replaying.specs.Packed.{packed}
 use Rattle.replaying.specs.declared.Turn.{Turn}
-use Rattle.replaying.specs.declared.Turn.TheVariants.{Added, Back, Refused}
+use Rattle.replaying.specs.declared.Turn.TheVariants.{Added, Back}
+use Rattle.replaying.specs.declared.Plan.{Plan}
 
--- the rooms and the counts of runs stand for a state
 abbrev pub packed_of : List Triple → ℕ
 packed_of present = packed (counts_of present)
 
-pub record Stands (present : List Triple) (rooms counts : ℕ) : Type 0 where
+-- a plan stands for a state
+pub record Stands (present : List Triple) (plan : Plan) : Type 0 where
   pub built : Built present
-  pub rooms_are : rooms ≡ rooms_of present
-  pub counts_are : counts ≡ packed_of present
+  pub rooms_are : plan.rooms ≡ rooms_of present
+  pub counts_are : plan.counts ≡ packed_of present
 
 -- a value of each state to which taking rooms away leads back is kept, by the number of rooms
 abbrev pub Below : (List Triple → ℕ) → List Triple → List ℕ → Type 0
@@ -28,12 +29,15 @@ Below value (t ∷ present) kept = (get_or kept (rooms_of present) 0 ≡ value p
 abbrev pub Kept : (List Triple → ℕ) → List Triple → List ℕ → Type 0
 Kept value present kept = (get_or kept (rooms_of present) 0 ≡ value present) × Below value present kept
 
+-- the numbers of any state fit these
+abbrev pub Fits : Plan → Type 0
+Fits plan = (1 ≤ plan.rooms) × (plan.rooms ≤ 255) × (257 ≤ plan.counts) × (plan.counts ≤ 65535)
+
 -- a room is added
-abbrev pub AddTurn : Triple → (rooms counts : ℕ) → Turn → Type 0
-AddTurn t rooms counts (Added next) =
-    (present : List Triple) → Stands present rooms counts → Makes (add t) present (t ∷ present) × Stands (t ∷ present) (rooms + 1) next
-AddTurn t rooms counts (Back left next) = ⊥
-AddTurn t rooms counts (Refused refusal) = (present : List Triple) → Stands present rooms counts → Refuses (add t) present refusal
+abbrev pub AddTurn : Triple → Plan → Result Plan Refusal → Type 0
+AddTurn t plan (Ok next) =
+    (present : List Triple) → Stands present plan → Makes (add t) present (t ∷ present) × Stands (t ∷ present) next
+AddTurn t plan (Err refusal) = (present : List Triple) → Stands present plan → Refuses (add t) present refusal
 
 -- the move of kind 2, and that of kind 3
 abbrev pub back_move : ℕ → Move
@@ -43,24 +47,19 @@ back_move (suc (suc zero)) = take_away
 back_move (suc (suc (suc kind))) = claim
 
 -- the state to which such a move goes back
-pub record GoesBack (kind : ℕ) (present : List Triple) (kept : List ℕ) (rooms counts : ℕ) : Type 0 where
+pub record GoesBack (kind : ℕ) (present : List Triple) (kept : List ℕ) (plan : Plan) : Type 0 where
   pub state : List Triple
   pub makes : Makes (back_move kind) present state
-  pub stands : Stands state rooms counts
+  pub stands : Stands state plan
   pub kept_are : Kept packed_of state kept
 
-abbrev pub Backed : (kind : ℕ) → List Triple → (kept : List ℕ) → Turn → Type 0
-Backed kind present kept (Added next) = ⊥
-Backed kind present kept (Back left next) = GoesBack kind present kept left next
-Backed kind present kept (Refused refusal) = Refuses (back_move kind) present refusal
+abbrev pub Backed : (kind : ℕ) → List Triple → (kept : List ℕ) → Result Plan Refusal → Type 0
+Backed kind present kept (Ok next) = GoesBack kind present kept next
+Backed kind present kept (Err refusal) = Refuses (back_move kind) present refusal
 
-abbrev pub BackTurn : (kind rooms : ℕ) (kept : List ℕ) → Turn → Type 0
-BackTurn kind rooms kept turn =
-    (present : List Triple) → Built present → rooms ≡ rooms_of present → Kept packed_of present kept → Backed kind present kept turn
-
--- the body of the move at a place, or 8 where it is missing
-abbrev pub Body : (bytes : List ℕ) (at body : ℕ) → Type 0
-Body bytes at body = ((at + 1 < length bytes) × (body ≡ get_or bytes (at + 1) 0)) ⊎ ((length bytes ≤ at + 1) × (body ≡ 8))
+abbrev pub BackTurn : (kind : ℕ) → Plan → (kept : List ℕ) → Result Plan Refusal → Type 0
+BackTurn kind plan kept turn =
+    (present : List Triple) → Built present → plan.rooms ≡ rooms_of present → Kept packed_of present kept → Backed kind present kept turn
 
 -- the move at a place makes another state, and the next one is at another place
 pub record Goes (bytes : List ℕ) (at : ℕ) (present : List Triple) (place : ℕ) (state : List Triple) : Type 0 where
@@ -78,13 +77,13 @@ pub record Halts (bytes : List ℕ) (at : ℕ) (present : List Triple) (refusal 
   pub refuses : Refuses move present refusal
 
 -- where a room is added its counts are not kept yet
-abbrev pub Turned : (bytes : List ℕ) (at rooms : ℕ) → List Triple → (kept : List ℕ) → Turn → Type 0
-Turned bytes at rooms present kept (Added next) =
-    (t : Triple) × Goes bytes at present (at + 2) (t ∷ present) × Stands (t ∷ present) (rooms + 1) next
-Turned bytes at rooms present kept (Back left next) =
-    (state : List Triple) × Goes bytes at present (at + 1) state × Stands state left next × Kept packed_of state kept
-Turned bytes at rooms present kept (Refused refusal) = Halts bytes at present refusal
+abbrev pub Turned : (bytes : List ℕ) (at : ℕ) → List Triple → (kept : List ℕ) → Result Turn Refusal → Type 0
+Turned bytes at present kept (Ok (Added next)) =
+    (t : Triple) × Goes bytes at present (at + 2) (t ∷ present) × Stands (t ∷ present) next
+Turned bytes at present kept (Ok (Back next)) =
+    (state : List Triple) × Goes bytes at present (at + 1) state × Stands state next × Kept packed_of state kept
+Turned bytes at present kept (Err refusal) = Halts bytes at present refusal
 
-abbrev pub MoveTurn : (bytes : List ℕ) (at rooms counts : ℕ) (kept : List ℕ) → Turn → Type 0
-MoveTurn bytes at rooms counts kept turn =
-    (present : List Triple) → Stands present rooms counts → Kept packed_of present kept → Turned bytes at rooms present kept turn
+abbrev pub MoveTurn : (bytes : List ℕ) (at : ℕ) → Plan → (kept : List ℕ) → Result Turn Refusal → Type 0
+MoveTurn bytes at plan kept turn =
+    (present : List Triple) → Stands present plan → Kept packed_of present kept → Turned bytes at present kept turn

@@ -2,18 +2,18 @@
 // request. A trace is gone through twice: it is judged whole, and then the states of one that is accepted are written.
 #![tactic(auto)]
 
-ghost use Rattle.std.specs.Prelude.{◌≡◌, ◌≤◌, ◌<◌, length};
+ghost use Rattle.std.specs.Prelude.{◌≡◌, ◌+◌, ◌≤◌, ◌<◌, length, slice_get};
 ghost use Rattle.record.specs.TripleNumber.{triple_of};
 ghost use Rattle.traces.specs.Move.{moves_of};
 ghost use Rattle.traces.specs.Replay.{replay};
 ghost use Rattle.traces.specs.Row.{NoneRefused};
 ghost use Rattle.traces.specs.Answer.{Traced};
 ghost use Rattle.replaying.specs.Packed.{row_of, CountsRuns, gain_of};
-ghost use Rattle.replaying.specs.Turn.{AddTurn, BackTurn, Body, MoveTurn};
+ghost use Rattle.replaying.specs.Turn.{Fits, AddTurn, BackTurn, MoveTurn};
 ghost use Rattle.replaying.specs.Passes.{judged_of, filled_by};
 
 use record::Refusal;
-use traces::TraceAnswer;
+use traces::{Replayed, TraceError};
 
 // How many runs lie below the current one and how many above it stand in one number: below + 1 in the low 8 bits and above + 1 over them.
 // So a count of one less than none is 0 there, and tells that the run which was to be joined is missing.
@@ -38,140 +38,140 @@ fn row(triple: u8) -> usize
     }
 }
 
-// The number of runs, the current one among them.
-fn runs(counts: usize) -> usize
-    requires { (257 ≤ counts) × (counts ≤ 65535) }
-    ensures { CountsRuns counts result }
+// The triple of the move at a place, if it has its body.
+fn triple_at(trace: &[u8], at: usize) -> Option<u8>
+    requires { at < length trace.now }
+    ensures { result ≡ slice_get trace.now (at + 1) }
 {
-    counts / 256 + counts % 256 - 1
+    trace.get(at + 1).copied()
 }
 
-// What a move makes of a plan: the counts of runs with a room more; or how many rooms are left, and the counts with them; or why it is
-// refused.
+// A plan as it is drafted: its rooms, and the counts of its runs. That the counts fit 16 bits is no ghost field: it follows from the state
+// that they stand for, which the contracts name.
+#[derive(Clone, Copy)]
+struct Plan {
+    rooms: usize,
+    counts: usize,
+}
+
+// What a move makes of a plan: one with a room more, or one that it goes back to.
 #[derive(Clone, Copy)]
 enum Turn {
-    Added(usize),
-    Back(usize, usize),
-    Refused(Refusal),
+    Added(Plan),
+    Back(Plan),
 }
 
-// A room is added.
-fn added(triple: u8, rooms: usize, counts: usize) -> Turn
-    requires { (triple < 8) × (rooms ≤ 255) × (257 ≤ counts) × (counts ≤ 65535) }
-    ensures { AddTurn (triple_of triple) rooms counts result }
-{
-    if rooms == 255 {
-        return Turn::Refused(Refusal::Count);
+impl Plan {
+    // The number of runs, the current one among them.
+    fn runs(self) -> usize
+        requires { Fits self }
+        ensures { CountsRuns self.counts result }
+    {
+        self.counts / 256 + self.counts % 256 - 1
     }
-    let next = counts + row(triple) - 256;
-    if next % 256 == 0 {
-        return Turn::Refused(Refusal::MissingRun);
-    }
-    if next < 256 {
-        return Turn::Refused(Refusal::MissingRun);
-    }
-    Turn::Added(next)
-}
 
-// A number that was kept.
-fn told(kept: u16) -> usize
-    ensures { (result ≡ kept) × (result ≤ 65535) }
-{
-    kept as usize
-}
-
-// A room is taken away, with kind 2, or one run is claimed, with kind 3. Either goes back to counts that were kept, with kind 3 to those of
-// the plan as it is: so there is no jump between the two, which could not be foreseen.
-fn back(kind: u8, rooms: usize, kept: &[u16; 256]) -> Turn
-    requires { (2 ≤ kind) × (kind ≤ 3) × (1 ≤ rooms) × (rooms ≤ 255) }
-    ensures { BackTurn kind rooms kept.now result }
-{
-    let left = rooms + steps::wide(kind) - 3;
-    if left == 0 {
-        return Turn::Refused(Refusal::OnlyRoom);
+    // A room is added.
+    fn added(self, triple: u8) -> Result<Plan, Refusal>
+        requires { (triple < 8) × Fits self }
+        ensures { AddTurn (triple_of triple) self result }
+    {
+        if self.rooms == 255 {
+            return Err(Refusal::Count);
+        }
+        let counts = self.counts + row(triple) - 256;
+        if counts % 256 == 0 {
+            return Err(Refusal::MissingRun);
+        }
+        if counts < 256 {
+            return Err(Refusal::MissingRun);
+        }
+        Ok(Plan {
+            rooms: self.rooms + 1,
+            counts,
+        })
     }
-    let counts = told(kept[left]);
-    if kind == 3 {
-        if counts != ONE_RUN {
-            return Turn::Refused(Refusal::SeveralRuns);
+
+    // A room is taken away, with kind 2, or one run is claimed, with kind 3. Either goes back to counts that were kept, with kind 3 to
+    // those of the plan as it is: so there is no jump between the two, which could not be foreseen.
+    fn back(self, kind: u8, kept: &[u16; 256]) -> Result<Plan, Refusal>
+        requires { (2 ≤ kind) × (kind ≤ 3) × Fits self }
+        ensures { BackTurn kind self kept.now result }
+    {
+        let rooms = self.rooms + usize::from(kind) - 3;
+        if rooms == 0 {
+            return Err(Refusal::OnlyRoom);
+        }
+        let counts = usize::from(kept[rooms]);
+        if kind == 3 {
+            if counts != ONE_RUN {
+                return Err(Refusal::SeveralRuns);
+            }
+        }
+        Ok(Plan { rooms, counts })
+    }
+
+    // The move at a place.
+    fn made(self, trace: &[u8], at: usize, kept: &[u16; 256]) -> Result<Turn, Refusal>
+        requires within { (at < length trace.now) × (length trace.now ≤ 65535) }
+        requires fits { Fits self }
+        ensures { MoveTurn trace.now at self kept.now result }
+    {
+        match trace[at] {
+            1 => {
+                let Some(triple) = triple_at(trace, at) else {
+                    return Err(Refusal::BadMove);
+                };
+                if 7 < triple {
+                    return Err(Refusal::BadMove);
+                }
+                Ok(Turn::Added(self.added(triple)?))
+            }
+            kind @ 2..=3 => Ok(Turn::Back(self.back(kind, kept)?)),
+            _ => Err(Refusal::BadMove),
         }
     }
-    Turn::Back(left, counts)
 }
 
-// The triple of the move at a place, or 8, which is none, where its body is missing.
-fn triple_at(trace: &[u8], at: usize) -> u8
-    requires { (at < length trace.now) × (length trace.now ≤ 65535) }
-    ensures { Body trace.now at result }
-{
-    if trace.len() <= at + 1 {
-        return 8;
-    }
-    trace[at + 1]
-}
-
-// One move.
-fn made(trace: &[u8], at: usize, rooms: usize, counts: usize, kept: &[u16; 256]) -> Turn
-    requires fact_1 { (at < length trace.now) × (length trace.now ≤ 65535) }
-    requires fact_2 { (1 ≤ rooms) × (rooms ≤ 255) × (257 ≤ counts) × (counts ≤ 65535) }
-    ensures { MoveTurn trace.now at rooms counts kept.now result }
-{
-    let kind = trace[at];
-    if kind == 1 {
-        let triple = triple_at(trace, at);
-        if 7 < triple {
-            return Turn::Refused(Refusal::BadMove);
-        }
-        return added(triple, rooms, counts);
-    }
-    if kind < 2 {
-        return Turn::Refused(Refusal::BadMove);
-    }
-    if 3 < kind {
-        return Turn::Refused(Refusal::BadMove);
-    }
-    back(kind, rooms, kept)
-}
-
-// What judging a trace comes to: after so many moves, the rooms and runs; or why a move is refused, its ordinal, and the rooms and runs
-// before it.
-#[derive(Clone, Copy)]
-enum Judged {
-    Ended(usize, usize, usize),
-    Stopped(Refusal, usize, usize, usize),
-}
-
-// The first pass. The counts of runs are kept by the number of rooms, at first those of one room alone.
-fn judge(trace: &[u8]) -> Judged
+// The first pass: the rooms and runs after so many moves; or why a move is refused, its ordinal, and the rooms and runs before it. The
+// counts of runs are kept by the number of rooms, at first those of one room alone.
+fn judge(trace: &[u8]) -> Result<Replayed, TraceError>
     requires { length trace.now ≤ 65535 }
     ensures { result ≡ judged_of (replay (moves_of trace.now)) }
 {
     let mut kept = [257u16; 256];
     let mut at = 0;
     let mut moves = 0;
-    let mut rooms = 1;
-    let mut counts = ONE_RUN;
+    let mut plan = Plan {
+        rooms: 1,
+        counts: ONE_RUN,
+    };
+    // A while: a move is one or two bytes.
     while at < trace.len() {
-        match made(trace, at, rooms, counts, &kept) {
-            Turn::Refused(refusal) => {
+        let turn = match plan.made(trace, at, &kept) {
+            Ok(turn) => turn,
+            Err(refusal) => {
                 let ordinal = moves + 1;
-                return Judged::Stopped(refusal, ordinal, rooms, runs(counts));
+                return Err(TraceError::RefusedMove(refusal, ordinal, plan.rooms, plan.runs()));
             }
+        };
+        match turn {
             Turn::Added(next) => {
-                rooms += 1;
-                counts = next;
-                kept[rooms] = next as u16;
+                kept[next.rooms] = next.counts as u16;
+                plan = next;
                 at += 2;
             }
-            Turn::Back(left, next) => {
-                rooms = left;
-                counts = next;
+            Turn::Back(next) => {
+                plan = next;
                 at += 1;
             }
         }
         moves += 1;
     }
-    Judged::Ended(moves, rooms, runs(counts))
+    Ok(Replayed {
+        moves,
+        rooms: plan.rooms,
+        runs: plan.runs(),
+    })
 }
 
 // What a triple adds to an entry.
@@ -203,6 +203,7 @@ fn write(trace: &[u8], states: &mut [u16])
     let mut moves = 0;
     let mut rooms = 1;
     let mut entry = 257;
+    // A while: a move is one or two bytes.
     while at < trace.len() {
         let kind = trace[at];
         if kind == 1 {
@@ -211,8 +212,8 @@ fn write(trace: &[u8], states: &mut [u16])
             kept[rooms] = entry as u16;
             at += 2;
         } else {
-            rooms = rooms + steps::wide(kind) - 3;
-            entry = told(kept[rooms]);
+            rooms = rooms + usize::from(kind) - 3;
+            entry = usize::from(kept[rooms]);
             at += 1;
         }
         states[moves] = entry as u16;
@@ -222,22 +223,16 @@ fn write(trace: &[u8], states: &mut [u16])
 
 // The replay of a trace: the rooms and runs after each move, from the front of the slice, and at the end; or the refusal, and the slice as
 // it was.
-pub fn trace(trace: &[u8], states: &mut [u16]) -> TraceAnswer
+pub fn trace(trace: &[u8], states: &mut [u16]) -> Result<Replayed, TraceError>
     ensures { Traced trace.now states.old result states.new }
 {
     if 65535 < trace.len() {
-        return TraceAnswer::Refused(Refusal::TooLong);
+        return Err(TraceError::from(Refusal::TooLong));
     }
-    match judge(trace) {
-        Judged::Stopped(refusal, ordinal, rooms, runs) => {
-            TraceAnswer::RefusedMove(refusal, ordinal, rooms, runs)
-        }
-        Judged::Ended(moves, rooms, runs) => {
-            if states.len() < moves {
-                return TraceAnswer::Refused(Refusal::ShortOutput);
-            }
-            write(trace, states);
-            TraceAnswer::Replayed(moves, rooms, runs)
-        }
+    let replayed = judge(trace)?;
+    if states.len() < replayed.moves {
+        return Err(TraceError::from(Refusal::ShortOutput));
     }
+    write(trace, states);
+    Ok(replayed)
 }

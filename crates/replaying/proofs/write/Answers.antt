@@ -5,7 +5,7 @@ use native.Mathlib.Omega.{arith}
 use Rattle.replaying.proofs.Entries.{entry_small}
 use Rattle.replaying.proofs.Writing.{Moved, moved_as, Gained, one_body, body_small, gained, moved_add, left_small, moved_back, written_first, written_room, written_next, written_end}
 use Rattle.replaying.proofs.write.Goals as goal
-use Rattle.replaying.proofs.write.Goals.{After-gain-entry, After-wide, Joined-kind-eq1, then-kind-eq1, else-kind-eq1}
+use Rattle.replaying.proofs.write.Goals.{After-gain-entry, After-from, Joined-kind-eq1, then-kind-eq1, else-kind-eq1}
 
 -- the entry with a room more
 grows : (c : After-gain-entry) →
@@ -14,10 +14,10 @@ grows c =
     gained (c.loop-at.invariant.standing) c.loop-at-test.true c.if-kind-eq1.true c.gain-entry.result c.gain-entry.ensures.0
 
 -- the rooms that are left
-few : (c : After-wide) →
-    let left = c.loop-at.rooms + c.wide.result - 3 in (1 ≤ left) × (left ≤ 255)
+few : (c : After-from) →
+    let left = c.loop-at.rooms + c.from.result - 3 in (1 ≤ left) × (left ≤ 255)
 few c =
-    left_small (c.loop-at.invariant.standing) c.loop-at-test.true c.if-kind-eq1.false c.wide.ensures.0 refl
+    left_small (c.loop-at.invariant.standing) c.loop-at-test.true c.if-kind-eq1.false {kind = c.from.result} (omega arith) refl
 
 -- what the move has made
 moved : (c : Joined-kind-eq1)
@@ -30,7 +30,7 @@ moved c =
           let one = w.if-kind-eq1.true in
           moved_as s (moved_add s h one (gained s h one w.gain-entry.result w.gain-entry.ensures.0)) w.kept-is w.at-is w.rooms-is w.entry-is
       | else-kind-eq1 w ↦
-          moved_as s (moved_back s h w.if-kind-eq1.false w.wide.ensures.0 refl w.told-entry.result w.told-entry.ensures.0) w.kept-is w.at-is w.rooms-is
+          moved_as s (moved_back s h w.if-kind-eq1.false {kind = w.from.result} (omega arith) refl w.from-entry.result (omega arith)) w.kept-is w.at-is w.rooms-is
           w.entry-is
     ]
 
