@@ -2,16 +2,20 @@
 use mathlib.Core.List.{List, [], ◌∷◌}
 use mathlib.Core.Logic.{◌≢◌, ◌⊎◌, inl, inr}
 use mathlib.Core.Path.{◌≡◌, refl, sym, ap, subst, ◌∙◌}
-use Prim.Native.Nat.{ℕ, ◌+◌, ◌≤◌, ◌<◌}
+use Prim.Native.Nat.{ℕ, ◌+◌, ◌-◌, ◌≤◌, ◌<◌}
+use Rattle.std.proofs.lemmas.List.{length-drop}
 use native.Mathlib.Numerals.{add-one}
 use native.Mathlib.Omega.{arith}
-use lib.ListN.{length, get_or, set, drop, length-set, get_or-eq_default, drop_of_length-le}
-use lib.Seq.{drop-cons}
+use lib.ListN.{length, get_or, set, take, drop, length-set, get_or-eq_default, drop_of_length-le}
+use lib.Seq.{drop-cons, get_or-take, take-length, length-take-le}
+use Rattle.record.specs.declared.Refusal.{Refusal}
+use Rattle.record.specs.declared.Refusal.TheVariants.{TextForm}
 use Rattle.labeltext.specs.Symbol.{symbol_of, symbol_is}
 use Rattle.labeltext.specs.Reader.{State, start, one, two, three, spaced, listed, broken, next, run, Done, numbers_of, broken_run}
 use Rattle.numbers.specs.Places.{place_of, place_after, begins_at, Standing, Reached}
-use Rattle.numbers.specs.Number.{as_byte}
-use Rattle.numbers.specs.Store.{Starts, Labelled, ListedAs}
+use Rattle.numbers.specs.Number.{number_at, as_byte}
+use Rattle.numbers.specs.Store.{Starts, Labelled, ListedAs, Refuses}
+use Rattle.numbers.specs.Store as refuses
 use Rattle.numbers.proofs.Turns.{Fine, row_next, place_small, Turn, begins, grows, passes, breaks, turn}
 use Rattle.numbers.proofs.Begun.{Begun, none_begun, all_ended, Course, going, lost, turned}
 
@@ -43,6 +47,10 @@ reached_next line i place after end h e r s is =
 pub reached_end : (line : List ℕ) (i place : ℕ) → length line ≤ i → Reached place (drop i line) place
 unfolding run
 reached_end line i place h s is = is ∙ ap (λ (l : List ℕ). place_of (run s l)) (sym (drop_of_length-le line h))
+
+-- the rest of a line, as the code lends it
+pub rest_of : (line : List ℕ) (i : ℕ) → take (length line - i) (drop i line) ≡ drop i line
+rest_of line i = ap (λ (n : ℕ). take n (drop i line)) (sym (length-drop i line)) ∙ take-length (drop i line)
 
 -- where a line may end
 not_broken : (s : State) → place_of s ≡ 0 → ¬ Done s
@@ -113,7 +121,7 @@ module _ {line : List ℕ} {i place count : ℕ} {starts : List ℕ} (p : Passin
   passing_standing = record { state = p.state; is = p.place_is }
 
   -- ---- a turn
-  pub passing_turn : i < length line → count ≢ 256 → {after m : ℕ} → after ≡ place_after place (symbol_of (get_or line i 0)) → m ≡ begins_at after
+  pub passing_turn : i < length line → count < 256 → {after m : ℕ} → after ≡ place_after place (symbol_of (get_or line i 0)) → m ≡ begins_at after
       → m ≤ 1 → Passing line (i + 1) after (count + m) (set starts count i)
   unfolding run
   passing_turn inside room {after} {m} leads m-is small =
@@ -145,11 +153,15 @@ module _ {line : List ℕ} {i place count : ℕ} {starts : List ℕ} (p : Passin
     end_is : end ≡ place_of (run start line)
     end_is = reached p.state p.place_is ∙ ap place_of (sym p.reaches)
 
-    pub passing_broken : end ≡ 0 → ¬ Done (run start line)
+    passing_broken : end ≡ 0 → ¬ Done (run start line)
     passing_broken e = not_broken (run start line) (sym end_is ∙ e)
 
-    pub passing_comma : end ≡ 48 → ¬ Done (run start line)
+    passing_comma : end ≡ 48 → ¬ Done (run start line)
     passing_comma e = not_listed (run start line) (sym end_is ∙ e)
+
+    pub passing_refused : {refusal : Refusal} → (refusal ≡ TextForm) × ((end ≡ 0) ⊎ (end ≡ 48)) → Refuses line refusal
+    passing_refused (is, inl e) = subst (Refuses line) (sym is) (refuses.broken (passing_broken e))
+    passing_refused (is, inr e) = subst (Refuses line) (sym is) (refuses.broken (passing_comma e))
 
     module _ (fine : end ≢ 0) (full : end ≢ 48) where
       passing_done : Done (run start line)
@@ -177,10 +189,21 @@ module _ {line : List ℕ} {i place count : ℕ} {starts : List ℕ} (p : Passin
             go (going q) = subst (λ (s : State). Begun line s i count starts) (sym read_state) q
             go (lost e) = absurd (subst Done (read_state ∙ e) passing_done)
 
-        pub passing_starts : length line ≤ 4096 → Starts line starts count
-        passing_starts short = record { short = short; few = few; long = p.long; within = λ k h. omega (arith, begun.inside k h, p.within) }
+        -- the starts in use
+        size : length (take count starts) ≡ count
+        size = length-take-le count starts (omega (arith, p.long))
 
-        pub passing_listed : {list : List ℕ} → Labelled line starts count list → ListedAs count line list
+        taken : (k : ℕ) → k < length (take count starts) → get_or (take count starts) k 0 ≡ get_or starts k 0
+        taken k h = get_or-take count starts k 0 (omega (arith, size))
+
+        pub passing_starts : length line ≤ 4096 → Starts line (take count starts)
+        passing_starts short = record {
+          short = short;
+          few = omega (arith, size);
+          within = λ k h. omega (arith, taken k h, begun.inside k (omega (arith, size)), p.within);
+        }
+
+        pub passing_listed : {list : List ℕ} → Labelled line (take count starts) list → ListedAs count line list
         passing_listed l = record {
           done = passing_done;
           count_is = begun.count_is;
@@ -189,6 +212,8 @@ module _ {line : List ℕ} {i place count : ℕ} {starts : List ℕ} (p : Passin
             long = l.long;
             kept = λ k h.
                 let behind : get_or line i 0 ≡ 0 = get_or-eq_default line 0 all in
-                l.labels k (omega (arith, begun.count_is)) ∙ ap as_byte (all_ended begun (omega arith) k h);
+                let inside : k < length (take count starts) = omega (arith, size, begun.count_is) in
+                l.labels k inside ∙ ap (λ (at : ℕ). as_byte (number_at line at)) (taken k inside)
+                ∙ ap as_byte (all_ended begun (omega arith) k h);
           };
         }

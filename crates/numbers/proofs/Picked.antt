@@ -1,13 +1,15 @@
 -- The number that three bytes begin with, picked from three by products of bits.
 use mathlib.Core.Logic.{if_pos, if_neg}
 use mathlib.Core.Path.{◌≡◌, sym, ◌∙◌}
-use Prim.Native.Nat.{ℕ, ◌+◌, ◌*◌, ◌-◌, ◌%◌, ◌≤◌, ◌<◌}
+use Prim.Native.Nat.{ℕ, ◌+◌, ◌*◌, ◌-◌, ◌%◌, ◌<◌}
 use native.Mathlib.Decide.{dec_lt}
 use native.Mathlib.Omega.{arith}
 use borrow.Author.Tests.{lt-ltb, le-ltb}
 use lib.Dec.{ltb}
-use Rattle.bits.specs.Bit.{bit}
-use Rattle.numbers.specs.Number.{number_in}
+use Rattle.std.specs.Int.{from_bool}
+use Rattle.std.specs.Prelude.{Result, Ok, Err}
+use Rattle.std.specs.Result.{OkIff, result_unwrap_or}
+use Rattle.numbers.specs.Number.{number_in, as_byte}
 
 module _ (first second third : ℕ) where
   abbrev one : ℕ
@@ -19,41 +21,28 @@ module _ (first second third : ℕ) where
   abbrev three : ℕ
   three = 10 * two + third % 16
 
-  -- the products are small, and the sum is the number
-  pub record Picked (more last : ℕ) : Type 0 where
-    pub most : more * last ≤ 1
-    pub tens : more * (two - one) ≤ 165
-    pub hundreds : more * last * (three - two) ≤ 1665
-    pub is : one + more * (two - one) + more * last * (three - two) ≡ number_in first second third
-
-  bits : (more last : ℕ) → Dec (47 < second) → Dec (47 < third) → more ≡ bit (ltb 47 second) → last ≡ bit (ltb 47 third) → Picked more last
+  bits : (more last : ℕ) → Dec (47 < second) → Dec (47 < third) → more ≡ from_bool (ltb 47 second) → last ≡ from_bool (ltb 47 third)
+      → one + more * (two - one) + more * last * (three - two) ≡ number_in first second third
   unfolding number_in
   bits more last (yes h) (yes k) e d =
       let m : more ≡ 1 = e ∙ rw (lt-ltb 47 second h) (omega arith) in
       let l : last ≡ 1 = d ∙ rw (lt-ltb 47 third k) (omega arith) in
-      rw (m, l) (record {
-        most = omega arith;
-        tens = omega arith;
-        hundreds = omega arith;
-        is = omega arith ∙ sym (if_pos (dec_lt 47 third) k _ _) ∙ sym (if_pos (dec_lt 47 second) h _ _);
-      })
+      rw (m, l) (omega arith ∙ sym (if_pos (dec_lt 47 third) k _ _) ∙ sym (if_pos (dec_lt 47 second) h _ _))
   bits more last (yes h) (no k) e d =
       let m : more ≡ 1 = e ∙ rw (lt-ltb 47 second h) (omega arith) in
       let l : last ≡ 0 = d ∙ rw (le-ltb 47 third (omega arith)) (omega arith) in
-      rw (m, l) (record {
-        most = omega arith;
-        tens = omega arith;
-        hundreds = omega arith;
-        is = omega arith ∙ sym (if_neg (dec_lt 47 third) k _ _) ∙ sym (if_pos (dec_lt 47 second) h _ _);
-      })
+      rw (m, l) (omega arith ∙ sym (if_neg (dec_lt 47 third) k _ _) ∙ sym (if_pos (dec_lt 47 second) h _ _))
   bits more last (no h) k e d =
       let m : more ≡ 0 = e ∙ rw (le-ltb 47 second (omega arith)) (omega arith) in
-      rw m (record {
-        most = omega arith;
-        tens = omega arith;
-        hundreds = omega arith;
-        is = omega arith ∙ sym (if_neg (dec_lt 47 second) h _ _);
-      })
+      rw m (omega arith ∙ sym (if_neg (dec_lt 47 second) h _ _))
 
-  pub picked : {more last : ℕ} → more ≡ bit (ltb 47 second) → last ≡ bit (ltb 47 third) → Picked more last
+  -- the sum of the products is the number
+  pub picked : {more last : ℕ} → more ≡ from_bool (ltb 47 second) → last ≡ from_bool (ltb 47 third)
+      → one + more * (two - one) + more * last * (three - two) ≡ number_in first second third
   picked {more} {last} e d = bits more last (dec_lt 47 second) (dec_lt 47 third) e d
+
+-- a number as a byte, as it is converted
+pub converted : {E : Type 0} (byte : Result ℕ E) (number : ℕ) → OkIff byte (number < 256) number → result_unwrap_or byte 0 ≡ as_byte number
+unfolding as_byte
+converted (Ok byte) number (small, is) = is ∙ sym (if_neg (dec_lt 255 number) (λ h. omega arith) _ _)
+converted (Err e) number large = sym (if_pos (dec_lt 255 number) (omega arith) _ _)

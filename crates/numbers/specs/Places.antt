@@ -1,6 +1,8 @@
 -- The places of a reader as numbers, and the rows of the places that follow them.
-use Rattle.std.specs.Prelude.{List, ◌≡◌, ℕ, ◌/◌, ◌%◌, ◌^◌, ◌<◌, ltb, length, get_or}
+use Rattle.std.specs.Prelude.{Result, Ok, Err, List, ◌≡◌, ◌≢◌, ◌⊎◌, ℕ, ◌/◌, ◌%◌, ◌^◌, ◌<◌, ltb, length, get_or}
 use Rattle.bits.specs.Bit.{bit}
+use Rattle.record.specs.declared.Refusal.{Refusal}
+use Rattle.record.specs.declared.Refusal.TheVariants.{TextForm}
 use Rattle.labeltext.specs.Symbol.{Symbol, digit, space, comma, other, symbol_of}
 use Rattle.labeltext.specs.Reader.{State, start, one, two, three, spaced, listed, broken, run}
 
@@ -40,3 +42,8 @@ pub record Standing (place : ℕ) : Type 0 where
 -- each reader that stands at the place `before` comes through the bytes to the place `after`
 abbrev pub Reached : (before : ℕ) (bytes : List ℕ) (after : ℕ) → Type 0
 Reached before bytes after = (s : State) → before ≡ place_of s → after ≡ place_of (run s bytes)
+
+-- a line may end at this place; or there it breaks the form
+abbrev pub MayEnd : Result (Unit {0}) Refusal → (place : ℕ) → Type 0
+MayEnd (Ok done) place = (place ≢ 0) × (place ≢ 48)
+MayEnd (Err refusal) place = (refusal ≡ TextForm) × ((place ≡ 0) ⊎ (place ≡ 48))

@@ -2,23 +2,24 @@
 // is no branch on what a byte is, since nobody can foresee what many hands have typed.
 #![tactic(auto)]
 
-ghost use Rattle.std.specs.Prelude.{◌≡◌, ◌≤◌, length, get_or, drop, replicate};
-ghost use Rattle.bits.specs.Bit.{bit};
+ghost use Rattle.std.specs.Prelude.{◌≡◌, ◌≤◌, length, get_or, replicate};
 ghost use Rattle.labeltext.specs.Symbol.{symbol_of};
-ghost use Rattle.numbers.specs.Places.{place_after, begins_at, Rows, Standing, Reached};
+ghost use Rattle.numbers.specs.Places.{place_after, begins_at, Rows, Standing, Reached, MayEnd};
 ghost use Rattle.numbers.specs.Number.{number_in, as_byte};
 ghost use Rattle.numbers.specs.Store.{Starts, Gathered, Labelled, ReadAs};
 
-// What reading a line gives: how many numbers it lists, that they are more than 255, or that it breaks the form.
+use record::Refusal;
+
+// The first three bytes of each number, in three lists: with them side by side the compiler reads several numbers at a time.
 #[derive(Clone, Copy)]
-pub enum Reading {
-    Listed(usize),
-    Many,
-    Broken,
+struct Digits {
+    first: [u8; 255],
+    second: [u8; 255],
+    third: [u8; 255],
 }
 
 // Places in the form, in steps of 8: the form is broken; after one, two or three digits of a number; no number yet; after spaces; after
-// a comma.
+// a comma. They are numbers, and no enum: a place is the shift by which a row gives the place that follows.
 const BROKEN: u64 = 0;
 
 const TWO: u64 = 16;
@@ -39,153 +40,134 @@ const AFTER_SPACE: u64 = 0x0030_2820_2828_2800;
 
 const AFTER_COMMA: u64 = 0x0000_3000_3030_3000;
 
+// The rows of all bytes, by the byte.
+#[derive(Clone, Copy)]
+struct Table<'a> {
+    rows: &'a [u64; 256],
+    ghost filled: { Rows rows.now },
+}
+
 // Fills in the row of each byte that a line may hold; all others break the form.
 fn fill(rows: &mut [u64; 256])
     requires { rows.old ≡ replicate 256 0 }
     ensures { Rows rows.new }
 {
-    rows[32] = AFTER_SPACE;
-    rows[44] = AFTER_COMMA;
-    rows[48] = AFTER_DIGIT;
-    rows[49] = AFTER_DIGIT;
-    rows[50] = AFTER_DIGIT;
-    rows[51] = AFTER_DIGIT;
-    rows[52] = AFTER_DIGIT;
-    rows[53] = AFTER_DIGIT;
-    rows[54] = AFTER_DIGIT;
-    rows[55] = AFTER_DIGIT;
-    rows[56] = AFTER_DIGIT;
-    rows[57] = AFTER_DIGIT;
+    rows[b' ' as usize] = AFTER_SPACE;
+    rows[b',' as usize] = AFTER_COMMA;
+    rows[b'0' as usize..=b'9' as usize].fill(AFTER_DIGIT);
 }
 
-// The place after a byte. From a broken form no byte leads on.
-fn place_after(rows: &[u64; 256], place: u64, byte: u8) -> u64
-    requires { Rows rows.now × (place ≤ 48) }
-    ensures { result ≡ place_after place (symbol_of byte) }
-{
-    (rows[byte as usize] >> place) % 64
+impl Table<'_> {
+    // The place after a byte. From a broken form no byte leads on.
+    fn place_after(&self, place: u64, byte: u8) -> u64
+        requires { place ≤ 48 }
+        ensures { result ≡ place_after place (symbol_of byte) }
+    {
+        (self.rows[usize::from(byte)] >> place) % 64
+    }
+
+    // The place after the rest of a line.
+    fn last_place(&self, rest: &[u8], before: u64) -> u64
+        requires { Standing before }
+        ensures { Reached before rest.now result }
+    {
+        let mut place = before;
+        for &byte in rest {
+            place = self.place_after(place, byte);
+        }
+        place
+    }
 }
 
 // 1 where a number begins with the byte that leads to this place, else 0. In a broken form it is 1 too.
 fn begins(place: u64) -> usize
     ensures { (result ≡ begins_at place) × (result ≤ 1) }
 {
-    if place < TWO { 1 } else { 0 }
+    usize::from(place < TWO)
 }
 
-// The place after the rest of a line.
-fn last_place(rows: &[u64; 256], line: &[u8], from: usize, before: u64) -> u64
-    requires { Rows rows.now × Standing before × (from ≤ length line.now) }
-    ensures { Reached before (drop from line.now) result }
+// A line may end at each place but after a comma, unless the form is broken.
+fn may_end(place: u64) -> Result<(), Refusal>
+    ensures { MayEnd result place }
 {
-    let n = line.len();
-    let mut place = before;
-    let mut i = from;
-    while i < n {
-        place = place_after(rows, place, line[i]);
-        i += 1;
+    if place == BROKEN || place == COMMA {
+        return Err(Refusal::TextForm);
     }
-    place
-}
-
-// 1 where the test holds, else 0.
-fn one_if(test: bool) -> u16
-    ensures { (result ≡ bit test) × (result ≤ 1) }
-{
-    if test { 1 } else { 0 }
+    Ok(())
 }
 
 // The number with which three bytes begin, as a byte. One that no byte holds is outside 1 to n for each n up to 255, and so is 0.
 fn label_of(first: u8, second: u8, third: u8) -> u8
     ensures { result ≡ as_byte (number_in first second third) }
 {
-    let one = (first % 16) as u16;
-    let two = 10 * one + (second % 16) as u16;
-    let three = 10 * two + (third % 16) as u16;
-    let more = one_if(47 < second);
-    let most = more * one_if(47 < third);
+    let one = u16::from(first % 16);
+    let two = 10 * one + u16::from(second % 16);
+    let three = 10 * two + u16::from(third % 16);
+    let more = u16::from(47 < second);
+    let most = more * u16::from(47 < third);
     let number = one + more * (two - one) + most * (three - two);
-    if 255 < number { 0 } else { number as u8 }
+    u8::try_from(number).unwrap_or(0)
 }
 
 // The byte at a place of a line, or 0 behind its end.
 fn byte_at(line: &[u8], i: usize) -> u8
     ensures { result ≡ get_or line.now i 0 }
 {
-    if i < line.len() { line[i] } else { 0 }
+    line.get(i).copied().unwrap_or(0)
 }
 
-// Gathers the three bytes from each start on: with them side by side the compiler reads several numbers at a time.
-fn gather(
-    line: &[u8],
-    starts: &[u16; 256],
-    count: usize,
-    first: &mut [u8; 256],
-    second: &mut [u8; 256],
-    third: &mut [u8; 256],
-)
-    requires fact_1 { Starts line.now starts.now count }
-    requires fact_2 { (length first.old ≡ 256) × (length second.old ≡ 256) × (length third.old ≡ 256) }
-    ensures { Gathered line.now starts.now count
-        first.new second.new third.new }
+// Gathers the three bytes from each start on.
+fn gather(line: &[u8], starts: &[u16], digits: &mut Digits)
+    requires { Starts line.now starts.now }
+    ensures { Gathered line.now starts.now digits.new.first digits.new.second digits.new.third }
 {
-    let mut k = 0;
-    while k < count {
-        let start = starts[k] as usize;
-        first[k] = line[start];
-        second[k] = byte_at(line, start + 1);
-        third[k] = byte_at(line, start + 2);
-        k += 1;
+    for k in 0..starts.len() {
+        let start = usize::from(starts[k]);
+        digits.first[k] = line[start];
+        digits.second[k] = byte_at(line, start + 1);
+        digits.third[k] = byte_at(line, start + 2);
     }
 }
 
 // Reads the number at each start into the list.
-fn read_labels(line: &[u8], starts: &[u16; 256], count: usize, list: &mut [u8; 256])
-    requires { Starts line.now starts.now count × (length list.old ≡ 256) }
-    ensures { Labelled line.now starts.now count list.new }
+fn read_labels(line: &[u8], starts: &[u16], list: &mut [u8; 256])
+    requires { Starts line.now starts.now }
+    ensures { Labelled line.now starts.now list.new }
 {
-    let mut second = [0u8; 256];
-    let mut third = [0u8; 256];
-    gather(line, starts, count, list, &mut second, &mut third);
-    let mut k = 0;
-    while k < count {
-        list[k] = label_of(list[k], second[k], third[k]);
-        k += 1;
+    let mut digits = Digits {
+        first: [0; 255],
+        second: [0; 255],
+        third: [0; 255],
+    };
+    gather(line, starts, &mut digits);
+    for k in 0..starts.len() {
+        list[k] = label_of(digits.first[k], digits.second[k], digits.third[k]);
     }
 }
 
-// Reads a line, with its numbers into the list, from the front, if they are 255 at most. With the 256th number the starts are full, and
-// of the rest only the form is looked at.
-pub fn read(line: &[u8], list: &mut [u8; 256]) -> Reading
-    requires { (length line.now ≤ 4096) × (length list.old ≡ 256) }
+// Reads a line, with its numbers into the list, from the front, if they are 255 at most, and answers how many they are; or the refusal
+// with 18 or 1, in this order. With the 256th number the starts are full, and of the rest only the form is looked at.
+pub fn read(line: &[u8], list: &mut [u8; 256]) -> Result<usize, Refusal>
+    requires { length line.now ≤ 4096 }
     ensures { ReadAs result line.now list.new }
 {
     let mut rows = [0u64; 256];
     fill(&mut rows);
+    let table = Table { rows: &rows };
+    // A buffer with a count, since there is no heap; what follows takes the part of it that is in use.
     let mut starts = [0u16; 256];
-    let n = line.len();
     let mut place = START;
     let mut count = 0;
-    let mut i = 0;
-    while i < n {
-        if count == 256 {
-            break;
-        }
-        place = place_after(&rows, place, line[i]);
+    for i in 0..line.len() {
+        place = table.place_after(place, line[i]);
         starts[count] = i as u16;
         count += begins(place);
-        i += 1;
+        if count == 256 {
+            may_end(table.last_place(&line[i + 1..], place))?;
+            return Err(Refusal::Count);
+        }
     }
-    let end = last_place(&rows, line, i, place);
-    if end == BROKEN {
-        return Reading::Broken;
-    }
-    if end == COMMA {
-        return Reading::Broken;
-    }
-    if 255 < count {
-        return Reading::Many;
-    }
-    read_labels(line, &starts, count, list);
-    Reading::Listed(count)
+    may_end(place)?;
+    read_labels(line, &starts[..count], list);
+    Ok(count)
 }

@@ -1,33 +1,64 @@
 -- `numbers::read` meets its contract. Between two turns Passing says what is noted, what the next byte leaves of it, and what it comes to.
-use mathlib.Core.Path.{refl}
-use Prim.Native.Nat.{◌≤◌}
+use mathlib.Core.Path.{◌≡◌, refl}
+use Prim.Native.Nat.{◌+◌, ◌≤◌}
 use native.Mathlib.Omega.{arith}
-use lib.ListN.{length}
-use Rattle.numbers.proofs.Passing.{passing_none, passing_turn, passing_many, passing_starts, passing_listed}
+use borrow.Author.Rules.{rules}
+use lib.ListN.{length, set}
+use Rattle.std.specs.Prelude.{Err}
+use Rattle.numbers.specs.Store.{many}
+use Rattle.numbers.proofs.Passing.{Passing, passing_none, passing_turn, passing_standing, passing_refused, passing_many, passing_starts, passing_listed, reached_end, rest_of}
 use Rattle.numbers.proofs.read.Goals as goal
-use Rattle.numbers.proofs.read.Goals.{Else-count-gt255, else-loop-i-test, then-loop-i-test+then-count-eq256}
+use Rattle.numbers.proofs.read.Goals.{After-begins-count}
 
--- with at most 255 numbers the loop was left at the line's end
-all : (e : Else-count-gt255) → length e.args.line.now ≤ e.loop-i.i
-all e = elim e.loop-i-test.branch [ else-loop-i-test w ↦ omega arith | then-loop-i-test+then-count-eq256 w ↦ omega arith ]
+-- one byte more
+turned : (c : After-begins-count)
+    → Passing c.args.line.now (c.loop-i.i + 1) c.place_after-place.result (c.loop-i.count + c.begins-count.result)
+    (set c.loop-i.starts c.loop-i.count c.loop-i.i)
+turned c =
+    passing_turn c.loop-i.invariant.0 c.loop-i-test.true (omega (arith, c.loop-i.invariant.1)) c.place_after-place.ensures
+    c.begins-count.ensures.0 c.begins-count.ensures.1
 
 pub loop-i-init : goal.loop-i-init
-loop-i-init c = passing_none c.args.line.now _ refl
+loop-i-init c = (passing_none c.args.line.now _ refl, omega arith)
 
 pub loop-i-preserved : goal.loop-i-preserved
-loop-i-preserved c =
-    passing_turn c.loop-i.invariant c.loop-i-test.true c.if-count-eq256.false c.place_after-place.ensures c.begins-count.ensures.0 c.begins-count.ensures.1
+loop-i-preserved c = (
+  turned (goal.at.loop-i-preserved c).After-begins-count,
+  omega (arith, c.loop-i.invariant.1, c.begins-count.ensures.1, c.if-count-eq256.false),
+)
 
-pub returns-then-count-gt255 : goal.returns-then-count-gt255
-returns-then-count-gt255 c =
-    passing_many c.loop-i.invariant c.last_place-end.ensures c.if-end-eq-BROKEN.false
-    c.if-end-eq-COMMA.false c.if-count-gt255.true
+pub last_place-requires : goal.last_place-requires
+last_place-requires c = passing_standing (turned (goal.at.last_place-requires c).After-begins-count)
+
+pub returns-in_err-may_end : goal.returns-in_err-may_end
+returns-in_err-may_end c =
+    let same : c.from_residual.result ≡ Err c.in_err-may_end.field-0.0 = search rules in
+    let reached = rw (rest_of c.args.line.now (c.loop-i.i + 1)) at c.last_place.ensures in
+    rw same (passing_refused (turned (goal.at.returns-in_err-may_end c).After-begins-count) reached c.in_err-may_end.ensures)
+
+pub returns-then-count-eq256 : goal.returns-then-count-eq256
+returns-then-count-eq256 c =
+    let p = turned (goal.at.returns-then-count-eq256 c).After-begins-count in
+    let reached = rw (rest_of c.args.line.now (c.loop-i.i + 1)) at c.last_place.ensures in
+    let (done, above) =
+    passing_many p reached c.in_ok-may_end.ensures.0 c.in_ok-may_end.ensures.1 (omega (arith, c.if-count-eq256.true)) in
+    many done above
+
+pub returns-in_err-may_end-2 : goal.returns-in_err-may_end-2
+returns-in_err-may_end-2 c =
+    let same : c.from_residual-in_err-may_end-2.result ≡ Err c.in_err-may_end-2.field-0.0 = search rules in
+    let reached = reached_end c.args.line.now c.loop-i.i c.loop-i.place (omega (arith, c.loop-i-test.false)) in
+    rw same (passing_refused c.loop-i.invariant.0 reached c.in_err-may_end-2.ensures)
 
 pub read_labels-requires : goal.read_labels-requires
 read_labels-requires c =
-    (passing_starts c.loop-i.invariant c.last_place-end.ensures c.if-end-eq-BROKEN.false c.if-end-eq-COMMA.false (all (goal.at.read_labels-requires c).Else-count-gt255) (omega (arith, c.if-count-gt255.false)) c.requires.0, c.requires.1)
+    let all : length c.args.line.now ≤ c.loop-i.i = omega (arith, c.loop-i-test.false) in
+    let reached = reached_end c.args.line.now c.loop-i.i c.loop-i.place all in
+    passing_starts c.loop-i.invariant.0 reached c.in_ok-may_end-2.ensures.0 c.in_ok-may_end-2.ensures.1 all c.loop-i.invariant.1 c.requires
 
 pub returns : goal.returns
 returns c =
-    passing_listed c.loop-i.invariant c.last_place-end.ensures c.if-end-eq-BROKEN.false c.if-end-eq-COMMA.false (all (goal.at.returns c).Else-count-gt255) (omega (arith, c.if-count-gt255.false))
+    let all : length c.args.line.now ≤ c.loop-i.i = omega (arith, c.loop-i-test.false) in
+    let reached = reached_end c.args.line.now c.loop-i.i c.loop-i.place all in
+    passing_listed c.loop-i.invariant.0 reached c.in_ok-may_end-2.ensures.0 c.in_ok-may_end-2.ensures.1 all c.loop-i.invariant.1
     c.read_labels.ensures
