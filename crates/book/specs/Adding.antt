@@ -1,19 +1,18 @@
 -- Adding a record: when it is added, and what stands in the book then.
-use Rattle.std.specs.Prelude.{List, ◌++◌, ◌≡◌, refl, ℕ, ◌+◌, ◌≤◌, length, take, drop}
+use Rattle.std.specs.Prelude.{List, ◌++◌, ◌≡◌, refl, ℕ, ◌+◌, ◌≤◌, length, take, drop, Ok, Err}
 use Rattle.std.proofs.Common.{sym, ap, subst, subst₂, ◌∙◌, arith, length-append, length-drop, take_at, drop_at, length-take-le}
 use Rattle.std.proofs.lemmas.List.{take-append-le}
 use Rattle.record.specs.Checked.{Readable}
 use Rattle.record.specs.declared.Refusal.{Refusal}
 use Rattle.book.specs.Book.{longest, records_of, GoodBook}
 use Rattle.book.specs.Summary.{Summary, summary_of}
-use Rattle.book.specs.Answer.{add_answer, BookAdd}
+use Rattle.book.specs.Answer.{AddAnswer, add_answer, BookAdd}
 use Rattle.book.specs.Course.{InOrder, Lengthened, used_after}
 use Rattle.book.specs.Checks.{FirstBad}
 use Rattle.book.specs.Joined.{good_one_more}
 use Rattle.book.specs.Demand1 as says
 use Rattle.book.specs.Demand1.{Own, AddSays, demand1_add_cause, demand1_add_answer}
-use Rattle.book.specs.declared.AddAnswer.{AddAnswer}
-use Rattle.book.specs.declared.AddAnswer.TheVariants.{Added, BadRecord, Refused}
+use Rattle.book.specs.declared.BookError.TheVariants.{BadRecord, Refused}
 
 -- ---- when a record is added
 -- a good record for a book that is in order and has room for it
@@ -32,9 +31,9 @@ module _ (book : List ℕ) (used : ℕ) («record» : List ℕ) (summary : Summa
 
   -- what an answer other than a plain refusal tells
   abbrev Told : AddAnswer → Type 0
-  Told (Added size) = GoodFor book used «record» summary × (size ≡ used + length «record»)
-  Told (BadRecord refusal ordinal) = FirstBad refusal ordinal 1 (records_of (take used book)) × (used ≤ longest)
-  Told (Refused refusal) = Unit
+  Told (Ok size) = GoodFor book used «record» summary × (size ≡ used + length «record»)
+  Told (Err (BadRecord refusal ordinal)) = FirstBad refusal ordinal 1 (records_of (take used book)) × (used ≤ longest)
+  Told (Err (Refused refusal)) = Unit
 
   told : {answer : AddAnswer} → AddSays book used «record» summary answer → Told answer
   told (says.beyond a) = tt
@@ -47,12 +46,12 @@ module _ (book : List ℕ) (used : ℕ) («record» : List ℕ) (summary : Summa
   told (says.added o all h l) = (record { in_order = own→in_order o; good = all; short = omega arith; lent = omega arith }, refl)
 
   -- only a good one is added
-  pub added→good : (size : ℕ) → add_answer book used «record» summary ≡ Added size
+  pub added→good : (size : ℕ) → add_answer book used «record» summary ≡ Ok size
       → GoodFor book used «record» summary × (size ≡ used + length «record»)
   added→good size e = subst Told e (told (demand1_add_cause book used «record» summary))
 
   -- and each good one is
-  pub good→added : GoodFor book used «record» summary → add_answer book used «record» summary ≡ Added (used + length «record»)
+  pub good→added : GoodFor book used «record» summary → add_answer book used «record» summary ≡ Ok (used + length «record»)
   good→added for =
       let short = for.short in
       let lent = for.lent in
@@ -60,7 +59,7 @@ module _ (book : List ℕ) (used : ℕ) («record» : List ℕ) (summary : Summa
       (says.added (in_order→own for.in_order) for.good (omega arith) (omega arith)))
 
   -- a bad record of the book is the first one
-  pub bad→first : (refusal : Refusal) (ordinal : ℕ) → add_answer book used «record» summary ≡ BadRecord refusal ordinal
+  pub bad→first : (refusal : Refusal) (ordinal : ℕ) → add_answer book used «record» summary ≡ Err (BadRecord refusal ordinal)
       → FirstBad refusal ordinal 1 (records_of (take used book)) × (used ≤ longest)
   bad→first refusal ordinal e = subst Told e (told (demand1_add_cause book used «record» summary))
 
@@ -94,13 +93,13 @@ module _ (book : List ℕ) (used : ℕ) («record» : List ℕ) (size : ℕ) (by
 -- ---- what a call leaves
 module _ {book «record» after : List ℕ} {used : ℕ} {before summary : Summary} where
   -- after a record is added
-  pub left_lengthened : (size : ℕ) → BookAdd book used «record» before (Added size) after summary
+  pub left_lengthened : (size : ℕ) → BookAdd book used «record» before (Ok size) after summary
       → GoodFor book used «record» before × Lengthened book used «record» size after summary
   left_lengthened size did =
       let for = added→good book used «record» before size (sym did.answered) in
       let lent = for.0.lent in (
         for.0,
-        subst₂ (λ (b : List ℕ) (s : Summary). Lengthened book used «record» size b s) (sym did.bytes_left_lem) (sym did.summary_left)
+        subst₂ (λ (b : List ℕ) (s : Summary). Lengthened book used «record» size b s) (sym did.bytes_left) (sym did.summary_left)
             (lengthened book used «record» size for.1 (omega (arith, for.1))),
       )
 
@@ -120,8 +119,6 @@ module _ {book «record» after : List ℕ} {used : ℕ} {before summary : Summa
   -- whatever a call answers, a book in order stays in order
   pub stays_in_order : (answer : AddAnswer) → BookAdd book used «record» before answer after summary → InOrder book used before
       → InOrder after (used_after answer used) summary
-  stays_in_order (Added size) did order = let left = left_lengthened size did in lengthened_in_order size left.0 left.1
-  stays_in_order (BadRecord refusal ordinal) did order =
-      subst₂ (λ (b : List ℕ) (s : Summary). InOrder b used s) (sym did.bytes_left_lem) (sym did.summary_left) order
-  stays_in_order (Refused refusal) did order =
-      subst₂ (λ (b : List ℕ) (s : Summary). InOrder b used s) (sym did.bytes_left_lem) (sym did.summary_left) order
+  stays_in_order (Ok size) did order = let left = left_lengthened size did in lengthened_in_order size left.0 left.1
+  stays_in_order (Err error) did order =
+      subst₂ (λ (b : List ℕ) (s : Summary). InOrder b used s) (sym did.bytes_left) (sym did.summary_left) order

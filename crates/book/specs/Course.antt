@@ -1,13 +1,10 @@
 -- A book in use, which the theorems of M107 speak of: it is in order, is lengthened by a record, has had records added, is read through.
-use Rattle.std.specs.Prelude.{List, [], ◌∷◌, ◌++◌, ◌≡◌, ℕ, ◌+◌, ◌≤◌, length, take, drop}
+use Rattle.std.specs.Prelude.{List, [], ◌∷◌, ◌++◌, ◌≡◌, ℕ, ◌+◌, ◌≤◌, length, take, drop, Some, None, Ok, Err}
 use Rattle.record.specs.Read.{kind_of}
 use Rattle.record.specs.Rises.{rises_of, falls_of}
 use Rattle.book.specs.Book.{longest, GoodBook}
 use Rattle.book.specs.Summary.{Summary, held, summary_of}
-use Rattle.book.specs.Answer.{next_answer, part_for, BookAdd}
-use Rattle.book.specs.declared.NextAnswer.TheVariants.{Record, End}
-use Rattle.book.specs.declared.AddAnswer.{AddAnswer}
-use Rattle.book.specs.declared.AddAnswer.TheVariants.{Added, BadRecord, Refused}
+use Rattle.book.specs.Answer.{AddAnswer, next_answer, part_for, BookAdd}
 
 -- a book is in order: its used part lies in the lent slice, is not too long and is accepted, and the summary is its own
 pub record InOrder (book : List ℕ) (used : ℕ) (summary : Summary) : Type 0 where
@@ -31,9 +28,8 @@ plus s r = held (s.plans + 1) (s.rooms + kind_of r) (s.rises + rises_of r) (s.fa
 
 -- the used length after an answer: the new one, or as it was
 abbrev pub used_after : AddAnswer → (used : ℕ) → ℕ
-used_after (Added size) used = size
-used_after (BadRecord refusal ordinal) used = used
-used_after (Refused refusal) used = used
+used_after (Ok size) used = size
+used_after (Err error) used = used
 
 -- a book after any number of additions to the empty one, each of them answered in any way, with the totals 0 at first
 pub data Built : (book : List ℕ) (used : ℕ) → Summary → Type 0 where
@@ -43,6 +39,6 @@ pub data Built : (book : List ℕ) (used : ℕ) → Summary → Type 0 where
 
 -- reading on from a place, each time from the end of the last record, hands back these records, and then comes to the end
 pub data ReadsOn (book : List ℕ) (used : ℕ) : (place : ℕ) → List (List ℕ) → Type 0 where
-  ended : {place : ℕ} → next_answer book used place ≡ End → ReadsOn book used place []
-  goes_on : {place size : ℕ} {others : List (List ℕ)} → next_answer book used place ≡ Record size
-      → ReadsOn book used (place + size) others → ReadsOn book used place (part_for (Record size) book place ∷ others)
+  ended : {place : ℕ} → next_answer book used place ≡ Ok None → ReadsOn book used place []
+  goes_on : {place size : ℕ} {others : List (List ℕ)} → next_answer book used place ≡ Ok (Some size)
+      → ReadsOn book used (place + size) others → ReadsOn book used place (part_for (Ok (Some size)) book place ∷ others)

@@ -1,12 +1,12 @@
 -- M-107's promises: of a book's bytes and its totals; then of adding to a book; then of reading on in it; then of its refusals.
-use Rattle.std.specs.Prelude.{List, [], ◌∷◌, ◌++◌, ◌≢◌, ◌↔◌, ◌≡◌, refl, ℕ, ◌+◌, ◌-◌, ◌≤◌, ◌<◌, length, take, get_or}
+use Rattle.std.specs.Prelude.{List, [], ◌∷◌, ◌++◌, ◌≢◌, ◌↔◌, ◌≡◌, refl, ℕ, ◌+◌, ◌-◌, ◌≤◌, ◌<◌, length, take, get_or, Some, Ok, Err}
 use Rattle.std.proofs.Common.{sym, ap, subst, ◌∙◌, arith, length-take}
 use Rattle.record.specs.Refusal.{number_of}
 use Rattle.record.specs.Checked.{Readable, Refuses}
 use Rattle.record.specs.declared.Refusal.{Refusal}
 use Rattle.book.specs.Book.{longest, records_of, joined, Good, GoodBook}
 use Rattle.book.specs.Summary.{Summary, Fits32, summary, summary_of}
-use Rattle.book.specs.Answer.{rest_at, record_at, next_answer, part_for, add_answer, BookAdd}
+use Rattle.book.specs.Answer.{AddAnswer, rest_at, record_at, next_answer, part_for, add_answer, BookAdd}
 use Rattle.book.specs.Course.{InOrder, Lengthened, plus, used_after, Built, empty, called, ReadsOn}
 use Rattle.book.specs.Parts.{records_none, records_few}
 use Rattle.book.specs.Checks.{first_bad→ordinal, first_bad→refuses, first_bad→before}
@@ -15,9 +15,7 @@ use Rattle.book.specs.Totals.{rises_falls_plans, rooms_few, summary_one_more}
 use Rattle.book.specs.NoneAfter.{front_never_11, first_bad_never_11}
 use Rattle.book.specs.ReadingOn.{is_record, is_bad, part_is, record_ends, next_same_record, next_same_rest, reads_on, read_through}
 use Rattle.book.specs.Adding.{good→added, added→good, bad→first, left_lengthened, lengthened_in_order, stays_in_order}
-use Rattle.book.specs.declared.NextAnswer.TheVariants.{Record, BadRecord}
-use Rattle.book.specs.declared.AddAnswer.{AddAnswer}
-use Rattle.book.specs.declared.AddAnswer.TheVariants as add
+use Rattle.book.specs.declared.BookError.TheVariants.{BadRecord, Refused}
 
 -- ---- "Store records one after another"
 -- whatever the bytes are, their records one after another are these bytes: nothing is left out or read twice
@@ -66,13 +64,13 @@ m107_summary_fits book used summary order =
 -- a good record is added to a book that is in order and has room for it
 pub m107_good_record_added : (book : List ℕ) (used : ℕ) («record» : List ℕ) (summary : Summary) → InOrder book used summary
     → Readable «record» → used + length «record» ≤ longest → used + length «record» ≤ length book
-    → add_answer book used «record» summary ≡ add.Added (used + length «record»)
+    → add_answer book used «record» summary ≡ Ok (used + length «record»)
 m107_good_record_added book used «record» summary order good short lent =
     good→added book used «record» summary (record { in_order = order; good = good; short = short; lent = lent })
 
 -- and only such a record to such a book
 pub m107_added_was_good : (book : List ℕ) (used : ℕ) («record» : List ℕ) (summary : Summary) (size : ℕ)
-    → add_answer book used «record» summary ≡ add.Added size
+    → add_answer book used «record» summary ≡ Ok size
     → InOrder book used summary × Readable «record» × (size ≡ used + length «record») × (size ≤ longest) × (size ≤ length book)
 m107_added_was_good book used «record» summary size e =
     let for = added→good book used «record» summary size e in
@@ -81,7 +79,7 @@ m107_added_was_good book used «record» summary size e =
     (for.0.in_order, for.0.good, for.1, omega (arith, for.1), omega (arith, for.1))
 
 module _ {book «record» after : List ℕ} {used : ℕ} {before summary : Summary} where
-  module _ (size : ℕ) (did : BookAdd book used «record» before (add.Added size) after summary) where
+  module _ (size : ℕ) (did : BookAdd book used «record» before (Ok size) after summary) where
     -- after adding, the used part is the old one followed by the record, the earlier bytes and all behind the new used part are as they
     -- were, and the summary is that of the lengthened book
     pub m107_added : Lengthened book used «record» size after summary
@@ -107,13 +105,13 @@ module _ {book «record» after : List ℕ} {used : ℕ} {before summary : Summa
 
   -- "a refused one changes neither" bytes nor summary: where a record of the book is bad
   pub m107_bad_record_changes_nothing : (refusal : Refusal) (ordinal : ℕ)
-      → BookAdd book used «record» before (add.BadRecord refusal ordinal) after summary → (after ≡ book) × (summary ≡ before)
-  m107_bad_record_changes_nothing refusal ordinal did = (did.bytes_left_lem, did.summary_left)
+      → BookAdd book used «record» before (Err (BadRecord refusal ordinal)) after summary → (after ≡ book) × (summary ≡ before)
+  m107_bad_record_changes_nothing refusal ordinal did = (did.bytes_left, did.summary_left)
 
   -- and for every other refusal
-  pub m107_refused_changes_nothing : (refusal : Refusal) → BookAdd book used «record» before (add.Refused refusal) after summary
+  pub m107_refused_changes_nothing : (refusal : Refusal) → BookAdd book used «record» before (Err (Refused refusal)) after summary
       → (after ≡ book) × (summary ≡ before)
-  m107_refused_changes_nothing refusal did = (did.bytes_left_lem, did.summary_left)
+  m107_refused_changes_nothing refusal did = (did.bytes_left, did.summary_left)
 
   -- so whatever adding answers, a book in order stays in order
   pub m107_stays_in_order : (answer : AddAnswer) → BookAdd book used «record» before answer after summary → InOrder book used before
@@ -135,8 +133,8 @@ m107_always_in_order (called {answer = answer} built did) = stays_in_order answe
 
 -- ---- "From any place in it, the next record is handed back as that part of the caller's bytes"
 -- the part that is handed back is the record at the place: accepted, as long as the answer says, and within the used part
-pub m107_next_part : (book : List ℕ) (used place size : ℕ) → next_answer book used place ≡ Record size
-    → let part = part_for (Record size) book place in
+pub m107_next_part : (book : List ℕ) (used place size : ℕ) → next_answer book used place ≡ Ok (Some size)
+    → let part = part_for (Ok (Some size)) book place in
     (part ≡ record_at book used place) × Readable part × (length part ≡ size) × (place + size ≤ used)
 m107_next_part book used place size e =
     let is = is_record book used place size e in
@@ -172,18 +170,18 @@ m107_read_through book used records reads =
 -- ---- "A bad record in a book is refused by its own number, together with its ordinal, from 1; 11 cannot occur inside a book"
 -- reading on: the bad record is the one at the place, and its ordinal is 1
 pub m107_next_bad : (book : List ℕ) (used place : ℕ) (refusal : Refusal) (ordinal : ℕ)
-    → next_answer book used place ≡ BadRecord refusal ordinal → Refuses (record_at book used place) refusal × (ordinal ≡ 1)
+    → next_answer book used place ≡ Err (BadRecord refusal ordinal) → Refuses (record_at book used place) refusal × (ordinal ≡ 1)
 m107_next_bad = is_bad
 
 -- its number is not 11
 pub m107_next_never_11 : (book : List ℕ) (used place : ℕ) (refusal : Refusal) (ordinal : ℕ)
-    → next_answer book used place ≡ BadRecord refusal ordinal → number_of refusal ≢ 11
+    → next_answer book used place ≡ Err (BadRecord refusal ordinal) → number_of refusal ≢ 11
 m107_next_never_11 book used place refusal ordinal e =
     front_never_11 (rest_at book used place) (m107_next_bad book used place refusal ordinal e).0
 
 -- adding: the bad record is the one with that ordinal in the book, and all before it are accepted
 pub m107_add_bad : (book : List ℕ) (used : ℕ) («record» : List ℕ) (summary : Summary) (refusal : Refusal) (ordinal : ℕ)
-    → add_answer book used «record» summary ≡ add.BadRecord refusal ordinal → let records = records_of (take used book) in
+    → add_answer book used «record» summary ≡ Err (BadRecord refusal ordinal) → let records = records_of (take used book) in
     (1 ≤ ordinal) × (ordinal ≤ length records) × Refuses (get_or records (ordinal - 1) []) refusal
     × ((j : ℕ) → j < ordinal - 1 → Readable (get_or records j []))
 m107_add_bad book used «record» summary refusal ordinal e =
@@ -193,13 +191,13 @@ m107_add_bad book used «record» summary refusal ordinal e =
 
 -- its number is not 11
 pub m107_add_never_11 : (book : List ℕ) (used : ℕ) («record» : List ℕ) (summary : Summary) (refusal : Refusal) (ordinal : ℕ)
-    → add_answer book used «record» summary ≡ add.BadRecord refusal ordinal → number_of refusal ≢ 11
+    → add_answer book used «record» summary ≡ Err (BadRecord refusal ordinal) → number_of refusal ≢ 11
 m107_add_never_11 book used «record» summary refusal ordinal e =
     first_bad_never_11 (take used book) (bad→first book used «record» summary refusal ordinal e).0
 
 -- its ordinal is at most 65,535
 pub m107_add_ordinal_fits : (book : List ℕ) (used : ℕ) («record» : List ℕ) (summary : Summary) (refusal : Refusal) (ordinal : ℕ)
-    → add_answer book used «record» summary ≡ add.BadRecord refusal ordinal → ordinal ≤ longest
+    → add_answer book used «record» summary ≡ Err (BadRecord refusal ordinal) → ordinal ≤ longest
 m107_add_ordinal_fits book used «record» summary refusal ordinal e =
     let first = bad→first book used «record» summary refusal ordinal e in
     omega (arith, first.1, (first_bad→ordinal first.0).1, records_few (take used book), length-take used book)

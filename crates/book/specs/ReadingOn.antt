@@ -1,5 +1,5 @@
 -- Reading on from a place: what the part is that it hands back, and which records it goes through.
-use Rattle.std.specs.Prelude.{List, [], ◌∷◌, ◌++◌, ◌≢◌, ◌≡◌, refl, ℕ, zero, suc, ◌+◌, ◌≤◌, ◌<◌, length, take, drop}
+use Rattle.std.specs.Prelude.{List, [], ◌∷◌, ◌++◌, ◌≢◌, ◌≡◌, refl, ℕ, zero, suc, ◌+◌, ◌≤◌, ◌<◌, length, take, drop, Some, None, Ok, Err}
 use Rattle.std.proofs.Common.{append_assoc, inl, inr, sym, ap, ap₂, subst, ◌∙◌, arith, length-take, length-drop, take-append-drop, drop-drop, length-take-le}
 use Rattle.std.proofs.lemmas.List.{drop-append-le}
 use Rattle.std.proofs.Math.Seq.{take-append_seam, length-slice}
@@ -7,13 +7,12 @@ use Rattle.finite.specs.Decide.{eq_or_ne}
 use Rattle.record.specs.Checked.{checked, Readable, Refuses}
 use Rattle.record.specs.declared.Refusal.{Refusal}
 use Rattle.book.specs.Book.{longest, size_of, front, behind, records_of, Good, GoodBook}
-use Rattle.book.specs.Answer.{Beyond, rest_at, record_at, next_answer, part_for}
+use Rattle.book.specs.Answer.{NextAnswer, Beyond, rest_at, record_at, next_answer, part_for}
 use Rattle.book.specs.Course.{ReadsOn, ended, goes_on}
 use Rattle.book.specs.Parts.{records_none, records_next, records_on, size_is}
 use Rattle.book.specs.Demand1 as says
 use Rattle.book.specs.Demand1.{Inside, NextSays, next_judged, demand1_next_cause, demand1_next_answer}
-use Rattle.book.specs.declared.NextAnswer.{NextAnswer}
-use Rattle.book.specs.declared.NextAnswer.TheVariants.{Record, End, BadRecord, Refused}
+use Rattle.book.specs.declared.BookError.TheVariants.{BadRecord, Refused}
 
 -- ---- places inside the used part
 pub inside : (book : List ℕ) (used place : ℕ) → used ≤ length book → used ≤ longest → place ≤ used → Inside book used place
@@ -57,10 +56,10 @@ module _ (book : List ℕ) (used place : ℕ) where
     pub long : length (record_at book used place) ≡ size
 
   abbrev Told : NextAnswer → Type 0
-  Told (Record size) = IsRecord size
-  Told End = place ≡ used
-  Told (BadRecord refusal ordinal) = Refuses (record_at book used place) refusal × (ordinal ≡ 1)
-  Told (Refused refusal) = Unit
+  Told (Ok (Some size)) = IsRecord size
+  Told (Ok None) = place ≡ used
+  Told (Err (BadRecord refusal ordinal)) = Refuses (record_at book used place) refusal × (ordinal ≡ 1)
+  Told (Err (Refused refusal)) = Unit
 
   told : {answer : NextAnswer} → NextSays book used place answer → Told answer
   told (says.beyond a) = tt
@@ -69,25 +68,25 @@ module _ (book : List ℕ) (used place : ℕ) where
   told (says.bad_record i less cause) = (cause, refl)
   told (says.next i less all) = record { inside_book = i; less = less; good = all; long = refl }
 
-  pub is_record : (size : ℕ) → next_answer book used place ≡ Record size → IsRecord size
+  pub is_record : (size : ℕ) → next_answer book used place ≡ Ok (Some size) → IsRecord size
   is_record size e = subst Told e (told (demand1_next_cause book used place))
 
-  pub is_end : next_answer book used place ≡ End → place ≡ used
+  pub is_end : next_answer book used place ≡ Ok None → place ≡ used
   is_end e = subst Told e (told (demand1_next_cause book used place))
 
-  pub is_bad : (refusal : Refusal) (ordinal : ℕ) → next_answer book used place ≡ BadRecord refusal ordinal
+  pub is_bad : (refusal : Refusal) (ordinal : ℕ) → next_answer book used place ≡ Err (BadRecord refusal ordinal)
       → Refuses (record_at book used place) refusal × (ordinal ≡ 1)
   is_bad refusal ordinal e = subst Told e (told (demand1_next_cause book used place))
 
   -- the part that is handed back is the record at the place
-  pub part_is : (size : ℕ) → next_answer book used place ≡ Record size → part_for (Record size) book place ≡ record_at book used place
+  pub part_is : (size : ℕ) → next_answer book used place ≡ Ok (Some size) → part_for (Ok (Some size)) book place ≡ record_at book used place
   part_is size e =
       let is = is_record size e in
       ap (λ (n : ℕ). take n (drop place book)) (sym is.long)
       ∙ part_is_record book used place (inside→lent book used place is.inside_book) (inside→place book used place is.inside_book)
 
   -- which ends within the used part
-  pub record_ends : (size : ℕ) → next_answer book used place ≡ Record size → place + size ≤ used
+  pub record_ends : (size : ℕ) → next_answer book used place ≡ Ok (Some size) → place + size ≤ used
   record_ends size e =
       let is = is_record size e in
       let rest = rest_at book used place in
@@ -108,7 +107,7 @@ pub next_same_record : (book other : List ℕ) (used used-other place place_othe
     → next_answer book used place ≡ next_answer other used-other place_other
 next_same_record book other used used-other place place_other lent short less lent_other short-other less_other same =
     sym (next_judged book used place (inside book used place lent short (omega arith)) (omega arith))
-    ∙ ap (λ (r : List ℕ). checked (λ refusal. BadRecord refusal 1) r (Record (length r))) same
+    ∙ ap (λ (r : List ℕ). checked (λ refusal. Err (BadRecord refusal 1)) r (Ok (Some (length r)))) same
     ∙ next_judged other used-other place_other (inside other used-other place_other lent_other short-other (omega arith)) (omega arith)
 
 -- with the same bytes from the place to the end of the used part: the same answer
@@ -128,7 +127,7 @@ module _ (book other : List ℕ) (used place : ℕ) (lent : used ≤ length book
       go (says.bad_record {refusal} i less cause) =
           says.bad_record (not_beyond_other i.0, i.1) less (subst (λ (rest : List ℕ). Refuses (front rest) refusal) same cause)
       go (says.next i less all) =
-          subst (λ (rest : List ℕ). NextSays other used place (Record (length (front rest)))) (sym same)
+          subst (λ (rest : List ℕ). NextSays other used place (Ok (Some (length (front rest))))) (sym same)
           (says.next (not_beyond_other i.0, i.1) less (subst (λ (rest : List ℕ). Readable (front rest)) same all))
 
 -- ---- from record to record
@@ -163,7 +162,7 @@ module _ (book : List ℕ) (used : ℕ) (lent : used ≤ length book) where
           let some = length-slice place used book lent in
           let both : Good (front rest ∷ records_of (behind rest)) = subst Good (records_next rest (omega arith)) good in
           let two = records_from place size (omega arith) both.0 refl in
-          let is : next_answer book used place ≡ Record size =
+          let is : next_answer book used place ≡ Ok (Some size) =
           sym (demand1_next_answer book used place (says.next (inside book used place lent short h) less both.0)) in
           let next_end : (1 ≤ size) × (place + size ≤ used) =
           (omega (arith, size_is both.0), omega (arith, length-take (size_of rest) rest)) in

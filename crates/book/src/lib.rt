@@ -1,22 +1,22 @@
-// The definitions and the theorems of a library book stand in specs/; what its calls answer is declared here.
+// The definitions and the theorems of a library book stand in specs/; how its calls refuse is declared here.
 #![tactic(auto)]
+
+ghost use Rattle.std.specs.Prelude.{◌≡◌};
+ghost use Rattle.book.specs.declared.BookError.TheVariants.{Refused};
 
 use record::Refusal;
 
-// What reading on answers: how long the record is that begins at the place; that the place is the end; a bad record with its ordinal,
-// from 1; or another refusal.
+// Why a call on a book is refused: a bad record in the book with its ordinal, from 1; or another refusal.
 #[derive(Clone, Copy)]
-pub enum NextAnswer {
-    Record(usize),
-    End,
+pub enum BookError {
     BadRecord(Refusal, usize),
     Refused(Refusal),
 }
 
-// What adding answers: the new used length; a bad record in the book with its ordinal, from 1; or another refusal.
-#[derive(Clone, Copy)]
-pub enum AddAnswer {
-    Added(usize),
-    BadRecord(Refusal, usize),
-    Refused(Refusal),
+impl From<Refusal> for BookError {
+    ghost from_gives = { λ refusal error. error ≡ Refused refusal };
+
+    fn from(refusal: Refusal) -> BookError {
+        BookError::Refused(refusal)
+    }
 }

@@ -44,7 +44,7 @@ module _ {book : List ℕ} {used : ℕ} {«record» : List ℕ} {s : Summary} {s
   pub adds : BookAdd book used «record» s (Added size) (take used book ++ «record» ++ drop (used + length «record») book) more
   adds = record {
     answered = ap Added a.size_is ∙ demand1_add_answer book used «record» s (added a.own a.accepts.readable (omega (arith, a.size_is, a.short)) (omega (arith, a.size_is, a.lent)));
-    bytes_left_lem = ap (λ (k : ℕ). take used book ++ «record» ++ drop k book) (sym a.size_is);
+    bytes_left = ap (λ (k : ℕ). take used book ++ «record» ++ drop k book) (sym a.size_is);
     summary_left = more_is;
   }
 
@@ -53,9 +53,9 @@ module _ (book : List ℕ) (used : ℕ) («record» : List ℕ) (s : Summary) wh
   pub bad_changes_nothing : (refusal : Refusal) (ordinal : ℕ) → AddSays book used «record» s (BadRecord refusal ordinal)
       → BookAdd book used «record» s (BadRecord refusal ordinal) book s
   bad_changes_nothing refusal ordinal says =
-      record { answered = demand1_add_answer book used «record» s says; bytes_left_lem = refl; summary_left = refl }
+      record { answered = demand1_add_answer book used «record» s says; bytes_left = refl; summary_left = refl }
 
   pub refused_changes_nothing : (refusal : Refusal) → AddSays book used «record» s (Refused refusal)
       → BookAdd book used «record» s (Refused refusal) book s
   refused_changes_nothing refusal says =
-      record { answered = demand1_add_answer book used «record» s says; bytes_left_lem = refl; summary_left = refl }
+      record { answered = demand1_add_answer book used «record» s says; bytes_left = refl; summary_left = refl }
