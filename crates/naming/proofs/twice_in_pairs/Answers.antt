@@ -1,7 +1,5 @@
--- `twice_in_pairs` meets its contract. The loop keeps that no room before `j` is named as an earlier one is.
-use Prim.Native.Nat.{ℕ}
-use native.Mathlib.Omega.{arith}
-use lib.ListN.{length, get_or}
+-- `twice_in_pairs` meets its contract: of two rooms of one name one is the later.
+use Rattle.std.proofs.Common.{ℕ, length, get_or, arith}
 use Rattle.finite.specs.Marks.{none_at_all}
 use Rattle.naming.specs.Twice.{Again, twice→again}
 use Rattle.naming.proofs.twice_in_pairs.Goals as goal
@@ -10,5 +8,5 @@ pub returns : goal.returns
 returns c =
     let names = c.args.names.now in
     let name : ℕ → ℕ = λ k. get_or names k 0 in
-    λ twice. none_at_all (Again name) (length names) c.loop-j.j (omega (arith, c.loop-j-test.false)) c.loop-j.invariant.1
+    λ twice. none_at_all (Again name) (length names) c.loop-j.j (omega (arith, c.loop-j-test.false)) c.loop-j.invariant
     (twice→again name (length names) twice)
