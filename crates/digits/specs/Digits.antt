@@ -1,9 +1,11 @@
 -- The digits of a number: those of its tenth and the last one, at most five for an unsigned 16-bit number and
 -- twenty for one of 64 bits.
-use Rattle.std.specs.Prelude.{List, [], ◌∷◌, ◌++◌, ◌≡◌, refl, ℕ, zero, suc, ◌+◌, ◌*◌, ◌/◌, ◌%◌, ◌^◌, ◌≤◌, ◌<◌, length}
+use Rattle.std.specs.Prelude.{List, [], ◌∷◌, ◌++◌, ◌≡◌, refl, ℕ, zero, suc, ◌/◌, ◌%◌, ◌^◌, ◌≤◌, ◌<◌, length}
 use Rattle.std.proofs.Math.Logic.{if_pos, if_neg}
-use Rattle.std.proofs.Common.{sym, ap, ◌∙◌, arith, length-append}
+use Rattle.std.proofs.Common.{sym, ap, ◌∙◌, arith}
 use Rattle.std.proofs.Math.Decide.{dec_lt}
+use Rattle.std.specs.Fmt.{decimal as printed}
+use Rattle.std.proofs.lemmas.Fmt.{AppendsLastDigit, decimal_from_appends, length-decimal-le}
 use Rattle.digits.specs.Decimal.{digit, digits_in, decimal}
 
 -- as many turns as the number says are enough
@@ -46,19 +48,15 @@ decimal_three number low high =
     decimal_more number (omega arith)
     ∙ ap (λ (l : List ℕ). l ++ (digit (number % 10) ∷ [])) (decimal_two (number / 10) (omega arith) (omega arith))
 
-pub length_more : (number : ℕ) → 10 ≤ number → length (decimal number) ≡ length (decimal (number / 10)) + 1
-length_more number h = ap length (decimal_more number h) ∙ length-append (decimal (number / 10)) (digit (number % 10) ∷ [])
-
--- a number below 10 ^ places
-short : (places number : ℕ) → number < 10 * 10 ^ places → length (decimal number) ≤ suc places
-short zero number h = omega (arith, ap length (decimal_one number (omega arith)))
-short (suc places) number h = elim (dec_lt number 10) [
-  | yes small ↦ omega (arith, ap length (decimal_one number small))
-  | no large ↦ omega (arith, length_more number (omega arith), short places (number / 10) (omega arith))
-]
+-- what the library prints of a number
+pub library_decimal : (number : ℕ) → number < 2 ^ 64 → printed number ≡ decimal number
+library_decimal number h =
+    let last : AppendsLastDigit (λ turns n. decimal n) = record { one = λ turns n small. decimal_one n small; more = λ turns n large. decimal_more n large } in
+    sym (decimal_from_appends (λ turns n. decimal n) last 20 number h (length-decimal-le 20 number (omega arith) (omega arith) h))
 
 pub decimal_short : (number : ℕ) → number < 65536 → length (decimal number) ≤ 5
-decimal_short number h = short 4 number (omega arith)
+decimal_short number h =
+    omega (arith, ap length (library_decimal number (omega arith)), length-decimal-le 5 number (omega arith) (omega arith) (omega arith))
 
 pub decimal_wide : (number : ℕ) → number < 2 ^ 64 → length (decimal number) ≤ 20
-decimal_wide number h = short 19 number (omega arith)
+decimal_wide number h = omega (arith, ap length (library_decimal number h), length-decimal-le 20 number (omega arith) (omega arith) h)
