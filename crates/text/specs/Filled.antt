@@ -1,13 +1,12 @@
--- A form is filled from the front: what is put so far, and then the rest of the form with the numbers that are left.
-use Rattle.std.specs.Prelude.{List, [], ◌∷◌, ◌++◌, ◌≢◌, ◌≡◌, refl, ℕ, ◌+◌, ◌*◌, ◌-◌, ◌≤◌, ◌<◌, length, get_or, drop}
-use Rattle.std.proofs.Common.{append-nil, append_assoc, sym, ap, ◌∙◌, arith, add-one, drop-cons}
+-- A form is filled from the front: a byte, or a number in the place of a mark, and then the rest.
+use Rattle.std.specs.Prelude.{List, [], ◌∷◌, ◌++◌, ◌≢◌, ◌≡◌, refl, ℕ, suc, ◌+◌, ◌*◌, ◌-◌, ◌≤◌, ◌<◌, length, get_or, drop, take}
+use Rattle.std.proofs.Common.{append-nil, append_assoc, sym, ap, subst, ◌∙◌, arith, add-one, drop-cons, length-append, length-drop}
 use Rattle.std.proofs.Math.Logic.{if_pos, if_neg}
 use Rattle.std.proofs.Math.Decide.{ℕ_discrete}
-use Rattle.std.proofs.Math.Seq.{drop-length}
+use Rattle.std.proofs.Math.Seq.{drop-length, take-length}
 use Rattle.digits.specs.Decimal.{decimal}
 use Rattle.digits.specs.Digits.{decimal_short}
 use Rattle.text.specs.Form.{mark, filled}
-use Rattle.finite.specs.Put.{Put, put_none, put_more, put_as}
 
 -- ---- the first byte of a form
 at_mark : (byte number : ℕ) (form numbers : List ℕ) → byte ≡ mark
@@ -30,70 +29,56 @@ unfolding filled
 no_form [] = refl
 no_form (number ∷ numbers) = refl
 
--- ---- where the loop's test is reached: the form up to i is put, and the first k numbers are
-pub record Filling (before : List ℕ) (start : ℕ) (form numbers text : List ℕ) (at i k : ℕ) : Type 0 where
-  pub done : List ℕ
-  pub put : Put before start done text at
-  pub rest : done ++ filled (drop i form) (drop k numbers) ≡ filled form numbers
-  pub form_left : i ≤ length form
-  pub numbers_left : k ≤ length numbers
-  pub short : at + (length form - i) + 4 * (length numbers - k) ≤ start + length form + 4 * length numbers
+-- ---- where a turn begins: the form up to i is put, and of the numbers these are left
+pub record Filling (before form numbers text left : List ℕ) (i : ℕ) : Type 0 where
+  pub put : text ++ filled (drop i form) left ≡ before ++ filled form numbers
+  pub short : length text + (length form - i) + 4 * length left ≤ length before + length form + 4 * length numbers
 
--- before the first turn
-pub none_filled : (before : List ℕ) (start : ℕ) (form numbers : List ℕ) → Filling before start form numbers before start 0 0
-none_filled before start form numbers = record {
-  done = [];
-  put = put_none before start;
-  rest = refl;
-  form_left = omega arith;
-  numbers_left = omega arith;
-  short = omega arith;
-}
-
-module _ {before : List ℕ} {start : ℕ} {form numbers text : List ℕ} {at i k : ℕ} (f : Filling before start form numbers text at i k) where
+module _ {before form numbers text left : List ℕ} {i : ℕ} (f : Filling before form numbers text left i) (inside : i < length form) where
   -- what is put grows by a part, and what is left loses it
-  grown : {after : List ℕ} {end i' k' : ℕ} (part : List ℕ) → Put text at part after end
-      → filled (drop i form) (drop k numbers) ≡ part ++ filled (drop i' form) (drop k' numbers)
-      → i' ≤ length form → k' ≤ length numbers
-      → end + (length form - i') + 4 * (length numbers - k') ≤ at + (length form - i) + 4 * (length numbers - k)
-      → Filling before start form numbers after end i' k'
-  grown {i' = i'} {k' = k'} part p e hi hk short = record {
-    done = f.done ++ part;
-    put = put_more f.put p;
-    rest =
-        append_assoc f.done part (filled (drop i' form) (drop k' numbers)) ∙ ap (λ (l : List ℕ). f.done ++ l) (sym e) ∙ f.rest;
-    form_left = hi;
-    numbers_left = hk;
-    short = omega arith;
+  grown : {after : List ℕ} (rest part : List ℕ) → filled (get_or form i 0 ∷ drop (suc i) form) left ≡ part ++ filled (drop (suc i) form) rest
+      → length part + 4 * length rest ≤ 1 + 4 * length left → after ≡ text ++ part
+      → Filling before form numbers after rest (i + 1)
+  grown rest part e h is = record {
+    put =
+        rw (is, add-one i) (append_assoc text part (filled (drop (suc i) form) rest) ∙ ap (λ (l : List ℕ). text ++ l) (sym e)
+        ∙ rw (drop-cons form i 0) at f.put);
+    short = omega (arith, ap length is, length-append text part, f.short);
   }
 
   -- a turn at a mark, while there are numbers
-  pub number_filled : {after : List ℕ} {end : ℕ} → i < length form → k < length numbers → get_or numbers k 0 < 65536 → get_or form i 0 ≡ mark
-      → Put text at (decimal (get_or numbers k 0)) after end → Filling before start form numbers after end (i + 1) (k + 1)
-  number_filled hi hk small is p =
-      grown (decimal (get_or numbers k 0)) p
-      (rw (drop-cons form i 0, drop-cons numbers k 0, add-one i, add-one k) (at_mark _ _ _ _ is))
-      (omega arith) (omega arith) (omega (arith, p.next, decimal_short (get_or numbers k 0) small))
+  pub number_put : {after rest : List ℕ} {number : ℕ} → 0 < length left → get_or form i 0 ≡ mark → number ≡ get_or left 0 0 → number < 65536
+      → rest ≡ take (length left - 1) (drop 1 left) → after ≡ text ++ decimal number → Filling before form numbers after rest (i + 1)
+  number_put {rest = rest} {number = number} some marks first small others is =
+      let tail : rest ≡ drop 1 left = others ∙ ap (λ (k : ℕ). take k (drop 1 left)) (sym (length-drop 1 left)) ∙ take-length (drop 1 left) in
+      grown rest (decimal number) (one left some first tail) (omega (arith, decimal_short number small, ap length tail, length-drop 1 left)) is
+    where
+      one : (l : List ℕ) → 0 < length l → number ≡ get_or l 0 0 → rest ≡ drop 1 l
+          → filled (get_or form i 0 ∷ drop (suc i) form) l ≡ decimal number ++ filled (drop (suc i) form) rest
+      one [] h e r = absurd (omega arith)
+      one (other ∷ l) h e r = at_mark _ _ _ _ marks ∙ λ t. decimal (sym e t) ++ filled (drop (suc i) form) (sym r t)
 
   -- a turn at any other byte
-  pub byte_filled : {after : List ℕ} {end : ℕ} → i < length form → get_or form i 0 ≢ mark
-      → Put text at (get_or form i 0 ∷ []) after end → Filling before start form numbers after end (i + 1) k
-  byte_filled hi other p =
-      grown (get_or form i 0 ∷ []) p
-      (rw (drop-cons form i 0, add-one i) (at_byte _ _ _ other))
-      (omega arith) f.numbers_left (omega (arith, p.next))
+  pub byte_put : {after rest : List ℕ} → get_or form i 0 ≢ mark → rest ≡ left → after ≡ text ++ get_or form i 0 ∷ []
+      → Filling before form numbers after rest (i + 1)
+  byte_put {after} {rest} other same is =
+      subst (λ (l : List ℕ). Filling before form numbers after l (i + 1)) (sym same)
+      (grown left (get_or form i 0 ∷ []) (at_byte _ _ _ other) (omega arith) is)
 
-  -- a turn at a mark for which there is no number
-  pub mark_kept : {after : List ℕ} {end : ℕ} → i < length form → k ≡ length numbers
-      → Put text at (get_or form i 0 ∷ []) after end → Filling before start form numbers after end (i + 1) k
-  mark_kept hi last p =
-      let none : drop k numbers ≡ [] = ap (λ (j : ℕ). drop j numbers) last ∙ drop-length numbers in
-      grown (get_or form i 0 ∷ []) p
-      (rw (none, no_number (drop i form), no_number (drop (i + 1) form), drop-cons form i 0, add-one i))
-      (omega arith) f.numbers_left (omega (arith, p.next))
+  -- a turn after the last number
+  pub rest_put : {after rest : List ℕ} → length left < 1 → rest ≡ left → after ≡ text ++ get_or form i 0 ∷ []
+      → Filling before form numbers after rest (i + 1)
+  rest_put {after} {rest} none same is =
+      subst (λ (l : List ℕ). Filling before form numbers after l (i + 1)) (sym same)
+      (grown left (get_or form i 0 ∷ []) (one left none) (omega arith) is)
+    where
+      one : (l : List ℕ) → length l < 1 → filled (get_or form i 0 ∷ drop (suc i) form) l ≡ get_or form i 0 ∷ filled (drop (suc i) form) l
+      one [] h = no_number _ ∙ ap (λ (l : List ℕ). get_or form i 0 ∷ l) (sym (no_number _))
+      one (number ∷ l) h = absurd (omega arith)
 
-  -- after the last turn
-  pub all_filled : i ≡ length form → Put before start (filled form numbers) text at
-  all_filled last =
-      let none : drop i form ≡ [] = ap (λ (j : ℕ). drop j form) last ∙ drop-length form in
-      put_as (sym (append-nil f.done) ∙ rw (none, no_form) at f.rest) f.put
+-- after the last turn
+pub all_put : {before form numbers text left : List ℕ} {i : ℕ} → Filling before form numbers text left i → i ≡ length form
+    → text ≡ before ++ filled form numbers
+all_put {form = form} {text = text} {left = left} {i = i} f last =
+    let none : drop i form ≡ [] = ap (λ (j : ℕ). drop j form) last ∙ drop-length form in
+    sym (append-nil text) ∙ ap (λ (l : List ℕ). text ++ l) (sym (no_form left)) ∙ rw none at f.put

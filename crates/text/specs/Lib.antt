@@ -1,8 +1,7 @@
 -- Definitions
 pub mod Form
 pub mod View
-pub mod Places
+pub mod Shown
 -- Laws
-pub mod Puts
 pub mod Filled
 pub mod Viewed

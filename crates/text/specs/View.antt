@@ -1,6 +1,6 @@
 -- What a program prints for a record: its plan in the program's own view, or the line of its refusal.
 -- "A refused record prints `refused` and the number on one line."
-use Rattle.std.specs.Prelude.{List, ℕ, length}
+use Rattle.std.specs.Prelude.{List, ◌≡◌, ℕ, suc, ◌<◌, length}
 use Rattle.record.specs.Labels.{label_at}
 use Rattle.record.specs.Read.{labels_of}
 use Rattle.record.specs.Checked.{checked}
@@ -17,6 +17,12 @@ refused_line number = word_line (ascii "refused") number
 -- a view of plans: the text for a plan of n rooms, where `label` and `room` say what stands at a position
 abbrev pub View : Type 0
 View = (label : ℕ → ℕ) (room : ℕ → Room) (n : ℕ) → List ℕ
+
+-- a view looks at positions 1 to n alone
+abbrev pub Local : View → Type 0
+Local view = (label other : ℕ → ℕ) (room another : ℕ → Room) (n : ℕ)
+    → ((k : ℕ) → k < n → label (suc k) ≡ other (suc k)) → ((k : ℕ) → k < n → room (suc k) ≡ another (suc k))
+    → view label room n ≡ view other another n
 
 -- what is printed for the labels of a record that is not refused
 abbrev pub view_of : View → (labels : List ℕ) → List ℕ

@@ -1,0 +1,2 @@
+-- What reading a record for a plan gives.
+pub mod Reading
