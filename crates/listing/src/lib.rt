@@ -1,78 +1,62 @@
-// Puts the listing of a plan: a header line, then a line for each position.
+// The listing of a plan: a header line, then a line for each position.
 #![tactic(auto)]
 
-ghost use Rattle.std.specs.Prelude.{◌+◌, ◌*◌, ◌≤◌, length};
-ghost use Rattle.finite.specs.Put.{Put};
-ghost use Rattle.text.specs.Places.{Places, view_in};
+ghost use Rattle.std.specs.Prelude.{◌≡◌, ◌++◌, ◌+◌, ◌*◌, ◌≤◌};
+ghost use Rattle.arrayvec.specs.ArrayVec.{array_vec_len};
+ghost use Rattle.record.specs.Labels.{label_at};
+ghost use Rattle.drawing.specs.Corners.{room_in};
+ghost use Rattle.text.specs.Shown.{shown};
 ghost use Rattle.listing.specs.Text.{line_of, lines_of, listing};
 
-use drawing::Room;
 use record::{Label, Position};
+use text::{Plan, Text};
 
 // Puts the line of a position.
-fn put_line(text: &mut [u8], at: usize, position: Position, label: Label, room: Room) -> usize
-    requires { at + 36 ≤ length text.old }
-    ensures { Put text.old at (line_of position.0 label.0 room) text.new result × (result ≤ at + 36) }
+#[tactic(auto, using(crate::specs::Lines::line_form))]
+fn put_line(text: &mut Text, plan: &Plan, position: Position)
+    requires inside { (1 ≤ position.0) × (position.0 ≤ plan.now.n) }
+    requires fits { array_vec_len text.old + 36 ≤ 56000 }
+    ensures items { text.new.items ≡ text.old.items
+        ++ line_of position.0 (label_at plan.now.labels position.0)
+        (room_in plan.now.corners position.0) }
+    ensures len { array_vec_len text.new ≤ array_vec_len text.old + 36 }
 {
+    let room = plan.room(position);
+    let Label(label) = plan.label(position);
     text::put_form(
         text,
-        at,
         b"% % % % % %\n",
         &[
-            position.0 as u16,
-            label.0 as u16,
+            u16::from(position.0),
+            u16::from(label),
             room.left,
             room.bottom,
             room.right,
             room.top,
         ],
-    )
+    );
 }
 
-// Puts the lines of n positions.
-fn put_lines<'a>(
-    text: &mut [u8],
-    start: usize,
-    n: usize,
-    labels: &[u8],
-    left: &'a [u8; 255],
-    bottom: &'a [u8; 255],
-    right: &'a [u8; 255],
-    top: &'a [u8; 255],
-) -> usize
-    requires fact_1 { Places n labels.now }
-    requires fact_2 { start + 36 * n ≤ length text.old }
-    ensures { Put text.old start
-        (view_in lines_of labels.now left.now bottom.now right.now top.now n)
-        text.new result × (result ≤ start + 36 * n) }
+// Puts the lines of all positions.
+#[tactic(auto, using(crate::specs::Lines::no_lines, crate::specs::Lines::one_line_more))]
+fn put_lines(text: &mut Text, plan: &Plan)
+    requires { array_vec_len text.old + 36 * plan.now.n ≤ 56000 }
+    ensures items { text.new.items ≡ text.old.items ++ shown lines_of plan.now }
+    ensures len { array_vec_len text.new ≤ array_vec_len text.old + 36 * plan.now.n }
 {
-    let mut at = start;
-    let mut i = 0;
-    while i < n {
-        let label = Label(labels[i]);
-        let room = answers::room_from(left, bottom, right, top, i);
-        i += 1;
-        at = put_line(text, at, Position(i as u8), label, room);
+    for i in 0..plan.n {
+        put_line(text, plan, Position(i + 1));
     }
-    at
 }
 
-// Puts the listing of n rooms from the front.
-pub fn put_listing<'a>(
-    text: &mut [u8],
-    n: usize,
-    labels: &[u8],
-    left: &'a [u8; 255],
-    bottom: &'a [u8; 255],
-    right: &'a [u8; 255],
-    top: &'a [u8; 255],
-) -> usize
-    requires fact_1 { Places n labels.now }
-    requires fact_2 { 9200 ≤ length text.old }
-    ensures { Put text.old 0
-        (view_in listing labels.now left.now bottom.now right.now top.now n)
-        text.new result × (result ≤ 9200) }
+// The listing of a plan.
+#[tactic(auto, unfolding(text::specs::Form::filled))]
+pub fn listing(plan: &Plan) -> Text
+    ensures { result.items ≡ shown listing plan.now }
 {
-    let at = text::put_form(text, 0, b"rooms %\n", &[n as u16]);
-    put_lines(text, at, n, labels, left, bottom, right, top)
+    let mut text = Text::new();
+    let n = plan.n;
+    text::put_form(&mut text, b"rooms %\n", &[u16::from(n)]);
+    put_lines(&mut text, plan);
+    text
 }
