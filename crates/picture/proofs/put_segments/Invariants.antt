@@ -1,12 +1,12 @@
-use Prim.Native.Nat.{◌+◌, ◌*◌, ◌-◌, ◌≤◌}
+-- `put_segments`: before the turn of line k the segments on the lines below it are put.
+use Rattle.std.proofs.Common.{◌≡◌, ◌++◌, ◌+◌, ◌*◌, ◌-◌, ◌≤◌, length}
 use Rattle.record.specs.Labels.{label_at}
 use Rattle.drawing.specs.Corners.{room_in}
-use Rattle.finite.specs.Put.{Put}
 use Rattle.shapes.specs.Picture.{segments_drawn}
 use Rattle.picture.proofs.put_segments.Given as goal
 
 abbrev pub invariant-loop-k : goal.invariant-loop-k
-invariant-loop-k l = Put l.initial.text l.start (segments_drawn (label_at l.labels) (room_in l.left l.bottom l.right l.top) l.n l.k) l.text l.at × (l.k + 1 ≤ l.n) × (l.at ≤ l.start + 62 * l.k)
-
-abbrev pub decreases-loop-k : goal.decreases-loop-k
-decreases-loop-k l = l.n - l.k
+invariant-loop-k l = record {
+  put : l.text.items ≡ l.initial.text.items ++ segments_drawn (label_at l.plan.labels) (room_in l.plan.corners) l.plan.n (l.k - 1);
+  short : length l.text.items ≤ length l.initial.text.items + 62 * (l.k - 1);
+}

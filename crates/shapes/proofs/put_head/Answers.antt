@@ -1,9 +1,8 @@
--- `shapes::put_head` meets its contract: the head is a form with four numbers.
-use native.Mathlib.Decide.{ℕ_discrete}
-use native.Mathlib.Omega.{arith}
+-- `put_head`: the head is a form with four numbers.
+use Rattle.std.proofs.Math.Decide.{ℕ_discrete}
 use Rattle.text.specs.Form.{filled}
 use Rattle.shapes.proofs.put_head.Goals as goal
 
-pub returns : goal.returns
+pub returns-clause-items : goal.returns-clause-items
 unfolding filled ℕ_discrete
-returns c = let shape = c.put_form.ensures in (shape.0, omega (arith, shape.1))
+returns-clause-items c = rw c.from-inside.ensures at c.put_form.ensures.items

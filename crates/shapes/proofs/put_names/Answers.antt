@@ -1,11 +1,13 @@
--- `shapes::put_names` meets its contract: the names are a form with seven numbers.
-use native.Mathlib.Decide.{ℕ_discrete}
-use native.Mathlib.Omega.{arith}
+-- `put_names`: the names are a form with seven numbers.
+use Rattle.std.proofs.Common.{◌++◌, ◌∙◌}
+use Rattle.std.proofs.Math.Decide.{ℕ_discrete}
 use Rattle.text.specs.Form.{filled}
+use Rattle.shapes.specs.Picture.{names}
 use Rattle.shapes.proofs.put_names.Goals as goal
 
-pub returns : goal.returns
+pub returns-clause-items : goal.returns-clause-items
 unfolding filled ℕ_discrete
-returns c =
-    let names = c.put_form.ensures in
-    (rw c.short_side-size.ensures at names.0, omega (arith, names.1))
+returns-clause-items c =
+    (rw c.short_side-size.ensures at c.put_form.ensures.items)
+    ∙ λ t. c.args.text.now.items
+    ++ names (c.from-n.ensures t) (c.from-position.ensures t) ((c.from-label.ensures ∙ c.label.ensures) t) (c.room-room.ensures.value t)

@@ -1,30 +1,21 @@
--- `shapes::put_segment` meets its contract: the comparison of the labels says which form is put, with four numbers.
-use mathlib.Core.Logic.{if_pos, if_neg}
-use mathlib.Core.Path.{sym, ap}
-use Prim.Native.Nat.{ℕ, ◌≤◌, ◌<◌}
-use native.Mathlib.Decide.{dec_lt, ℕ_discrete}
-use native.Mathlib.Omega.{arith}
+-- `put_segment`: where the label falls, the form of a horizontal segment is put, with four numbers.
+use Rattle.std.proofs.Common.{List, ◌≡◌, ◌++◌, ◌≤◌, ◌<◌, ℕ, arith, add-one, ap, sym, ◌∙◌}
+use Rattle.std.proofs.Math.Logic.{if_neg}
+use Rattle.std.proofs.Math.Decide.{dec_lt, ℕ_discrete}
 use Rattle.text.specs.Form.{filled}
-use Rattle.finite.specs.Put.{put_as}
-use Rattle.contacts.specs.GridLine.{vertical_at, horizontal_at}
+use Rattle.contacts.specs.GridLine.{horizontal_at}
 use Rattle.shapes.specs.Picture.{segment_drawn}
 use Rattle.shapes.proofs.put_segment.Goals as goal
 
-falls : {first second : ℕ} → second ≤ first → ¬ (first < second)
-falls h rises = omega arith
+falls : {first second one other : ℕ} → second ≤ first → first ≡ one → second ≡ other → ¬ (one < other)
+falls h e f rises = omega arith
 
-pub returns-then-first-second : goal.returns-then-first-second
+pub returns-else-first-second-clause-items : goal.returns-else-first-second-clause-items
 unfolding filled ℕ_discrete
-returns-then-first-second c =
-    let a = c.args in
-    let line = c.put_form.ensures in
-    let is = if_pos (dec_lt a.first.0 a.second.0) c.if-first-second.true _ _ in
-    (put_as {part = segment_drawn a.n (vertical_at a.k a.earlier a.later)} (ap (segment_drawn a.n) (sym is)) line.0, omega (arith, line.1))
-
-pub returns : goal.returns
-unfolding filled ℕ_discrete
-returns c =
-    let a = c.args in
-    let line = c.put_form-2.ensures in
-    let is = if_neg (dec_lt a.first.0 a.second.0) (falls c.if-first-second.false) _ _ in
-    (put_as {part = segment_drawn a.n (horizontal_at a.k a.earlier a.later)} (ap (segment_drawn a.n) (sym is)) line.0, omega (arith, line.1))
+returns-else-first-second-clause-items c =
+    let before : List ℕ = c.args.text.now.items in
+    let later = rw add-one at c.room-later.ensures.value in
+    let falling = falls c.if-first-second.false c.label-first.ensures (rw add-one at c.label-second.ensures) in
+    c.put_form-else-first-second.ensures.items
+    ∙ (λ t. before ++ segment_drawn (c.from-n.ensures t) (horizontal_at (c.from-k.ensures t) (c.room-earlier.ensures.value t) (later t)))
+    ∙ ap (λ s. before ++ segment_drawn c.args.plan.now.n s) (sym (if_neg (dec_lt _ _) falling _ _))

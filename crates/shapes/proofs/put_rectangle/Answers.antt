@@ -1,9 +1,0 @@
--- `shapes::put_rectangle` meets its contract: a rectangle is a form with four numbers.
-use native.Mathlib.Decide.{ℕ_discrete}
-use native.Mathlib.Omega.{arith}
-use Rattle.text.specs.Form.{filled}
-use Rattle.shapes.proofs.put_rectangle.Goals as goal
-
-pub returns : goal.returns
-unfolding filled ℕ_discrete
-returns c = let shape = c.put_form.ensures in (shape.0, omega (arith, shape.1))
