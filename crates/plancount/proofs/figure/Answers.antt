@@ -1,7 +1,7 @@
--- `plancount::figure` meets its contract: of 1 to 17 rooms the call reports the figure.
-use Rattle.std.specs.Prelude.{refl}
+-- `figure`: of 1 to 17 rooms the call reports the figure.
+use Rattle.std.proofs.Common.{arith, rules}
 use Rattle.counting.proofs.Reported.{count_is}
 use Rattle.plancount.proofs.figure.Goals as goal
 
-pub returns-in-Count : goal.returns-in-Count
-returns-in-Count c = count_is c.args.n c.args.rises c.requires.0 c.requires.1 c.in-Count.ensures refl
+pub returns : goal.returns
+returns c = count_is c.args.n c.args.rises (omega arith) c.requires.0 c.plan_count.ensures (search rules)
