@@ -1,7 +1,7 @@
 -- The rooms of two groups, pair by pair, where nothing is refused: a room of the first stands left of one of the second, or below it, if it
 -- stands before that across or upward, and else the other way round. So where all positions of the first come before those of the second,
 -- it is enough to know whether some room stands before another one across, and whether one does upward.
-use Rattle.std.specs.Prelude.{List, ◌≢◌, ◌⊎◌, ◌↔◌, ◌≡◌, refl, ℕ, ◌≤◌, ◌<◌}
+use Rattle.std.specs.Prelude.{List, ◌≢◌, ◌⊎◌, ◌↔◌, ◌≡◌, refl, ℕ, ◌≤◌, ◌<◌, None, Ok}
 use Rattle.std.proofs.Common.{inl, inr, sym, ap, ◌∙◌, arith}
 use Rattle.std.proofs.Math.Logic.{⊎_swap, ite}
 use Rattle.std.proofs.Math.Decide.{dec_lt}
@@ -16,7 +16,6 @@ use Rattle.sizes.specs.SideFacts.{left_iff_other_right, below_iff_other_above}
 use Rattle.groups.specs.Group.{Member, Fits}
 use Rattle.groups.specs.Standing.{AllStand}
 use Rattle.groups.proofs.StandingFacts.{member_inside, apart, Says}
-use Rattle.groups.specs.declared.GroupsAnswer.TheVariants.{Mixed}
 use Rattle.groups.specs.Pairs.{Ahead, SomeBefore, SomePair, other_way, side_before}
 
 -- where all rooms stand on one side, so does a pair of which more is known
@@ -62,7 +61,7 @@ later_stands f i j h =
 
 -- so where a room of the first comes before one of the second, and one after one of them, no side is that of all
 pub interleaved_mixed : (f : ℕ → ℕ) (first second : List ℕ) → SomePair first second (λ i j. i < j) → SomePair first second (λ i j. j < i)
-    → Says f first second Mixed
+    → Says f first second (Ok None)
 interleaved_mixed f first second before after side all =
     let (i, j, h, e) = pair_side f first second before all in
     let (k, l, g, d) = pair_side f first second after all in
@@ -100,7 +99,7 @@ module _ (f : ℕ → ℕ) (n : ℕ) (once : EachOnce f n) (first second : List 
   some_side : (way : Direction) → SomeBefore f way first second → SomePair first second (λ i j. side_of f i j ≡ side_before way)
   some_side way (i, a, b, (m, (j, c, d, (l, p)))) = (i, a, b, (m, (j, c, d, (l, (pair_before_iff_side a b m c d l way).0 p))))
 
-  pub both_mixed : SomeBefore f across first second → SomeBefore f upward first second → Says f first second Mixed
+  pub both_mixed : SomeBefore f across first second → SomeBefore f upward first second → Says f first second (Ok None)
   both_mixed left below side all =
       let (i, j, is-left, e) = pair_side f first second (some_side across left) all in
       let (k, l, is_below, d) = pair_side f first second (some_side upward below) all in

@@ -1,22 +1,20 @@
 -- Of two groups that are not empty, at most one side is that on which all rooms of the first stand of all rooms of the second; so an answer
 -- that says what holds is the answer. With the groups exchanged it is the opposite side.
-use Rattle.std.specs.Prelude.{List, ◌≢◌, ◌≡◌, refl, ℕ, ◌≤◌, ◌<◌}
+use Rattle.std.specs.Prelude.{List, ◌≢◌, ◌≡◌, refl, ℕ, ◌≤◌, ◌<◌, Some, None, Ok, Err}
 use Rattle.std.proofs.Common.{inl, inr, sym, ap, subst, ◌∙◌}
 use Rattle.std.proofs.Math.Logic.{⊎_swap, ite}
 use Rattle.finite.specs.Decide.{le_or_lt, stable}
-use Rattle.finite.specs.Search.{Some, dec_some}
+use Rattle.finite.specs.Search.{Some as SomeBetween, dec_some}
 use Rattle.drawing.specs.Side.{converse}
 use Rattle.drawing.proofs.SideFacts.{exchange_side}
 use Rattle.drawing.specs.declared.Side.{Side}
 use Rattle.drawing.specs.declared.Side.TheVariants.{Left, Right, Above, Below}
 use Rattle.groups.specs.Group.{Member, dec_member, SomeIn, Empty, SomeEmpty, Common, Fits}
 use Rattle.groups.specs.Standing.{AllStand, dec_all_stand}
-use Rattle.groups.specs.Answer.{standing}
-use Rattle.groups.specs.declared.GroupsAnswer.{GroupsAnswer}
-use Rattle.groups.specs.declared.GroupsAnswer.TheVariants.{Related, Mixed, Refused}
+use Rattle.groups.specs.Answer.{GroupsAnswer, standing}
 
 -- a group that is not empty has a room
-pub some_member : (group : List ℕ) → ¬ Empty group → Some (Member group) 1 257
+pub some_member : (group : List ℕ) → ¬ Empty group → SomeBetween (Member group) 1 257
 some_member group filled = stable (dec_some _ (dec_member group) 1 257) filled
 
 -- a room of a group with no position past n is one of n
@@ -31,9 +29,9 @@ apart first second none a b m n e = none (_, a, b, (m, subst (Member second) (sy
 module _ (f : ℕ → ℕ) (first second : List ℕ) where
   -- an answer with what it says
   abbrev pub Says : GroupsAnswer → Type 0
-  Says (Related side) = AllStand f first second side
-  Says Mixed = (side : Side) → ¬ AllStand f first second side
-  Says (Refused refusal) = ⊥
+  Says (Ok (Some side)) = AllStand f first second side
+  Says (Ok None) = (side : Side) → ¬ AllStand f first second side
+  Says (Err refusal) = ⊥
 
   abbrev All : Side → Type 0
   All = AllStand f first second
@@ -51,7 +49,7 @@ module _ (f : ℕ → ℕ) (first second : List ℕ) where
       none a b c d Below = d
 
       go : (a : Dec (All Left)) (b : Dec (All Right)) (c : Dec (All Above)) (d : Dec (All Below))
-          → Says (ite a (Related Left) (ite b (Related Right) (ite c (Related Above) (ite d (Related Below) Mixed))))
+          → Says (ite a (Ok (Some Left)) (ite b (Ok (Some Right)) (ite c (Ok (Some Above)) (ite d (Ok (Some Below)) (Ok None)))))
       go (yes a) b c d = a
       go (no a) (yes b) c d = b
       go (no a) (no b) (yes c) d = c
@@ -69,13 +67,13 @@ module _ (f : ℕ → ℕ) (first second : List ℕ) where
     says→standing answer h = go answer (standing f first second) h standing_says
       where
         go : (x y : GroupsAnswer) → Says x → Says y → x ≡ y
-        go (Related one) (Related other) h k = ap Related (at_most_one_side h k)
-        go (Related one) Mixed h k = absurd (k one h)
-        go Mixed (Related other) h k = absurd (h other k)
-        go Mixed Mixed h k = refl
-        go (Related one) (Refused _) h k = elim k [ ]
-        go Mixed (Refused _) h k = elim k [ ]
-        go (Refused _) y h k = elim h [ ]
+        go (Ok (Some one)) (Ok (Some other)) h k = ap (λ (side : Side). Ok (Some side)) (at_most_one_side h k)
+        go (Ok (Some one)) (Ok None) h k = absurd (k one h)
+        go (Ok None) (Ok (Some other)) h k = absurd (h other k)
+        go (Ok None) (Ok None) h k = refl
+        go (Ok (Some one)) (Err _) h k = elim k [ ]
+        go (Ok None) (Err _) h k = elim k [ ]
+        go (Err _) y h k = elim h [ ]
 
 -- ---- the groups exchanged
 pub common_exchanged : (first second : List ℕ) → Common first second → Common second first
@@ -94,13 +92,13 @@ stand_exchanged f first second none h j c d l i a b m = exchange_side f i j (apa
 
 -- the answer with the groups exchanged
 abbrev pub exchanged : GroupsAnswer → GroupsAnswer
-exchanged (Related side) = Related (converse side)
-exchanged Mixed = Mixed
-exchanged (Refused refusal) = Refused refusal
+exchanged (Ok (Some side)) = Ok (Some (converse side))
+exchanged (Ok None) = Ok None
+exchanged (Err refusal) = Err refusal
 
 pub says_exchanged : (f : ℕ → ℕ) (first second : List ℕ) → ¬ Common first second → (answer : GroupsAnswer)
     → Says f first second answer → Says f second first (exchanged answer)
-says_exchanged f first second none (Related side) h = stand_exchanged f first second none h
-says_exchanged f first second none Mixed h =
+says_exchanged f first second none (Ok (Some side)) h = stand_exchanged f first second none h
+says_exchanged f first second none (Ok None) h =
     λ side all. h (converse side) (stand_exchanged f second first (λ c. none (common_exchanged second first c)) all)
-says_exchanged f first second none (Refused _) h = elim h [ ]
+says_exchanged f first second none (Err _) h = elim h [ ]

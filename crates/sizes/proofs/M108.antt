@@ -1,5 +1,5 @@
 -- M-108: the lowest corners, placings and the slack, sentence by sentence. All is said of both directions at once.
-use Rattle.std.specs.Prelude.{List, ◌≢◌, ◌↔◌, ◌≡◌, ℤ, length}
+use Rattle.std.specs.Prelude.{List, ◌≢◌, ◌↔◌, ◌≡◌, ℤ, length, Ok}
 use Rattle.std.proofs.Common.{inl, inr, sym, subst, ◌∙◌, arith}
 use Prim.Native.Nat.{ℕ, zero, suc, ◌+◌, ◌-◌, ◌^◌, ◌≤◌, ◌<◌}
 use Rattle.finite.specs.Decide.{le_or_lt}
@@ -20,7 +20,7 @@ use Rattle.sizes.specs.Direction.{Direction, across, upward, Before}
 use Rattle.sizes.specs.Lowest.{furthest_before, start_at, needed_length}
 use Rattle.sizes.specs.Lists.{EachWay, number_at, lowest_corners, slack_of, HonoursAll}
 use Rattle.sizes.specs.Sized.{Sized}
-use Rattle.sizes.specs.Answer.{slack_answer, placing_answer}
+use Rattle.sizes.specs.Answer.{slack_each_way, slack_answer, placing_answer}
 use Rattle.sizes.specs.Placed.{start_of, end_of, PlacedCovers, FitsOutline, NotNegative, RoomsHonour, OwnCorners}
 use Rattle.sizes.specs.Demand1.{OtherLists, SlackSays, slack_is, PlacingSays, accepted, demand1_slack_cause, demand1_placing_cause, demand1_placing_answer}
 use Rattle.sizes.proofs.LowestLaws.{before→earlier, furthest_same, starts_at_furthest_end, only_starts, lowest_honour, none_lower, start_small}
@@ -28,8 +28,6 @@ use Rattle.sizes.specs.CornersFacts.{corner_is, corners_are, needed_is}
 use Rattle.sizes.specs.SideFacts.{left_iff_other_right, below_iff_other_above}
 use Rattle.sizes.specs.SlackFacts.{not_negative→at_least, at_least→not_negative}
 use Rattle.sizes.proofs.OfRooms.{honours_iff_rooms_honour, own_corners_honour}
-use Rattle.sizes.specs.declared.SlackAnswer.TheVariants as slack
-use Rattle.sizes.specs.declared.PlacingAnswer.TheVariants as placing
 
 -- the lowest corners each way
 abbrev pub lowest : (labels : List ℕ) (sizes : EachWay (List ℕ)) → EachWay (List ℕ)
@@ -148,11 +146,11 @@ module _ (labels : List ℕ) (sizes : EachWay (List ℕ)) where
 -- ---- what the calls answer
 module _ (bytes : List ℕ) (sizes : EachWay (List ℕ)) where
   -- what Slack tells: both numbers are 0 or more exactly if some placing that honours the relations fits the outline
-  pub m108_slack_tells : (outline : EachWay ℕ) (x y : ℤ) → slack_answer bytes sizes outline ≡ slack.Slack x y → (NotNegative x × NotNegative y)
+  pub m108_slack_tells : (outline : EachWay ℕ) (x y : ℤ) → slack_answer bytes sizes outline ≡ slack_each_way x y → (NotNegative x × NotNegative y)
       ↔ ((corners : EachWay (List ℕ)) × HonoursAll (labels_of bytes) sizes corners × FitsOutline (length (labels_of bytes)) sizes corners outline)
   m108_slack_tells outline x y e = told (subst (SlackSays bytes sizes outline) e (demand1_slack_cause bytes sizes outline))
     where
-      told : SlackSays bytes sizes outline (slack.Slack x y) → (NotNegative x × NotNegative y)
+      told : SlackSays bytes sizes outline (slack_each_way x y) → (NotNegative x × NotNegative y)
           ↔ ((corners : EachWay (List ℕ)) × HonoursAll (labels_of bytes) sizes corners × FitsOutline (length (labels_of bytes)) sizes corners outline)
       told (slack_is all p q) = let (to, from) = m108_slack_iff_fits (labels_of bytes) sizes outline in (
         λ (a, b). to (λ way. elim way as (λ w. NotNegative (slack_of (labels_of bytes) w (sizes w) (outline w))) [ across ↦ subst NotNegative p a | upward ↦ subst NotNegative q b ]),
@@ -167,13 +165,13 @@ module _ (bytes : List ℕ) (sizes : EachWay (List ℕ)) where
         × (side_of (label_at (labels_of bytes)) j i ≡ Above → end_of sizes corners upward i ≤ start_of corners upward j)
 
     -- a placing is accepted exactly if so, where neither the record nor a list is refused
-    pub m108_accepted_iff_ends_in_time : (placing_answer bytes sizes corners ≡ placing.Accepted) ↔ (Sized bytes (OtherLists bytes sizes corners) sizes × EndsInTime)
+    pub m108_accepted_iff_ends_in_time : (placing_answer bytes sizes corners ≡ Ok tt) ↔ (Sized bytes (OtherLists bytes sizes corners) sizes × EndsInTime)
     m108_accepted_iff_ends_in_time = (λ e. to (subst (PlacingSays bytes sizes corners) e (demand1_placing_cause bytes sizes corners)), from)
       where
         g : ℕ → ℕ
         g = label_at (labels_of bytes)
 
-        to : PlacingSays bytes sizes corners placing.Accepted → Sized bytes (OtherLists bytes sizes corners) sizes × EndsInTime
+        to : PlacingSays bytes sizes corners (Ok tt) → Sized bytes (OtherLists bytes sizes corners) sizes × EndsInTime
         to (accepted all honours) = (
           all,
           λ i j ai bi aj bj differ. let list = readable_only_list bytes all.readable in
@@ -183,7 +181,7 @@ module _ (bytes : List ℕ) (sizes : EachWay (List ℕ)) where
               ),
         )
 
-        from : Sized bytes (OtherLists bytes sizes corners) sizes × EndsInTime → placing_answer bytes sizes corners ≡ placing.Accepted
+        from : Sized bytes (OtherLists bytes sizes corners) sizes × EndsInTime → placing_answer bytes sizes corners ≡ Ok tt
         from (all, late) = sym (demand1_placing_answer bytes sizes corners (accepted all honours))
           where
             list : OnlyList (triple_in (body_of bytes)) (kind_of bytes) (labels_of bytes)
