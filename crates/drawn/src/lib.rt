@@ -2,71 +2,39 @@
 #![tactic(auto)]
 
 ghost use Rattle.std.specs.Prelude.{◌++◌, ◌≡◌, ◌≤◌, length, drop};
-ghost use Rattle.answers.specs.Answer.{count_of, Few, slices, RecordIn};
-ghost use Rattle.answers.specs.Corners.{corners, rooms_from};
+ghost use Rattle.answers.specs.Answer.{Few, slices, RecordIn};
+ghost use Rattle.answers.specs.Corners.{rooms_from};
 
-use answers::RecordAnswer;
-use drawing::Room;
-
-// How many rooms an answer gives.
-fn count(answer: RecordAnswer) -> usize
-    ensures { result ≡ count_of answer }
-{
-    match answer {
-        RecordAnswer::Read(n) => n,
-        RecordAnswer::Refused(_) => 0,
-    }
-}
+use drawing::{Corners, Room};
+use record::Refusal;
 
 // ---- rooms lent as structs
 
 // Writes the first `n` rooms from the front of a slice, which has the room, and leaves the rest of it. The fields are stored one by one:
 // a room stored whole makes slower code.
-fn put_rooms<'a>(
-    left: &'a [u8; 255],
-    bottom: &'a [u8; 255],
-    right: &'a [u8; 255],
-    top: &'a [u8; 255],
-    n: usize,
-    rooms: &mut [Room],
-)
+fn put_rooms(corners: &Corners, n: usize, rooms: &mut [Room])
     requires { (n ≤ 255) × (n ≤ length rooms.old) }
-    ensures { rooms.new
-        ≡ rooms_from (corners left.now bottom.now right.now top.now) n
-        ++ drop n rooms.old }
+    ensures { rooms.new ≡ rooms_from corners.now n ++ drop n rooms.old }
 {
-    let mut i = 0;
-    while i < n {
-        let room = answers::room_from(left, bottom, right, top, i);
+    for i in 0..n {
+        let room = corners.room(i);
         rooms[i].left = room.left;
         rooms[i].bottom = room.bottom;
         rooms[i].right = room.right;
         rooms[i].top = room.top;
         rooms[i].name = room.name;
-        i += 1;
     }
 }
 
-// Record in: the labels and the rooms by position, from the front of their slices; or the refusal, and the slices as they were.
-pub fn record_in(record: &[u8], labels: &mut [u8], rooms: &mut [Room]) -> RecordAnswer
+// Record in: the labels and the rooms by position, from the front of their slices, and how many there are; or the refusal, and the
+// slices as they were.
+pub fn record_in(record: &[u8], labels: &mut [u8], rooms: &mut [Room]) -> Result<usize, Refusal>
     ensures record_in { RecordIn «record».now (slices labels.old rooms.old) result
         (slices labels.new rooms.new) }
     ensures few { Few result }
 {
-    let mut left = [0u8; 255];
-    let mut bottom = [0u8; 255];
-    let mut right = [0u8; 255];
-    let mut top = [0u8; 255];
-    let answer = answers::read_corners(
-        record,
-        labels,
-        rooms.len(),
-        &mut left,
-        &mut bottom,
-        &mut right,
-        &mut top,
-    );
-    let n = count(answer);
-    put_rooms(&left, &bottom, &right, &top, n, rooms);
-    answer
+    let mut corners = Corners::NONE;
+    let n = answers::read_corners(record, labels, rooms.len(), &mut corners)?;
+    put_rooms(&corners, n, rooms);
+    Ok(n)
 }

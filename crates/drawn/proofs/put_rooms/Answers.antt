@@ -1,5 +1,5 @@
 -- `drawn::put_rooms` meets its contract: the five numbers of a room, stored one by one, store the room.
-use Rattle.std.proofs.Common.{◌≡◌, refl, ap, ◌∙◌, ℕ, zero, suc, ◌<◌, List, [], ◌∷◌, length, get_or, zero-le, arith}
+use Rattle.std.proofs.Common.{◌≡◌, refl, ap, ◌∙◌, ℕ, zero, suc, ◌<◌, List, [], ◌∷◌, length, get_or, arith}
 use Rattle.std.proofs.Math.ListN.{set}
 use Rattle.finite.specs.Fill.{filled_none, length_filled, filled_store}
 use Rattle.drawing.specs.Corners.{room_in}
@@ -36,17 +36,14 @@ put_all (x ∷ rooms) zero r h = refl
 put_all (x ∷ rooms) (suc i) r h = ap (λ (rest : List Room). x ∷ rest) (put_all rooms i r (omega arith))
 
 pub loop-i-init : goal.loop-i-init
-loop-i-init c = record { rooms_are = filled_none _ c.args.rooms.now; within = zero-le }
+loop-i-init c = filled_none _ c.args.rooms.now
 
 pub loop-i-preserved : goal.loop-i-preserved
 loop-i-preserved c =
-    let a = c.args in
-    let f = λ (i : ℕ). room_in a.left.now a.bottom.now a.right.now a.top.now (suc i) in
+    let rooms = c.args.rooms.now in
+    let f = λ (i : ℕ). room_in c.args.corners.now (suc i) in
     let i = c.loop-i.i in
-    let now = c.loop-i.invariant.rooms_are in
-    let inside : i < length a.rooms.now = omega (arith, c.loop-i-test.true, c.requires.1) in
-    let same : length c.loop-i.rooms ≡ length a.rooms.now = ap length now ∙ length_filled f i a.rooms.now (omega arith) in
-    record {
-      rooms_are = put_all c.loop-i.rooms i c.room_from-room.result (omega arith) ∙ (λ j. set (now j) i (c.room_from-room.ensures j)) ∙ filled_store f i a.rooms.now inside;
-      within = omega (arith, c.loop-i-test.true);
-    }
+    let now = c.loop-i.invariant in
+    let inside : i < length rooms = omega (arith, c.loop-i-test.true, c.requires.1) in
+    let same : length c.loop-i.rooms ≡ length rooms = ap length now ∙ length_filled f i rooms (omega arith) in
+    put_all c.loop-i.rooms i c.room-room.result (omega arith) ∙ (λ j. set (now j) i (c.room-room.ensures j)) ∙ filled_store f i rooms inside

@@ -1,2 +1,0 @@
--- What the functions write, in words of Record in.
-pub mod Answered
