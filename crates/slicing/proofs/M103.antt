@@ -1,6 +1,6 @@
 -- M-103's promises, each stated of a plan's labels, f at positions 1 to n; then of room lists and the drawing; then of records and of
 -- what calls leave.
-use Rattle.std.specs.Prelude.{List, [], ◌++◌, ◌≢◌, ◌↔◌, ◌≡◌, refl, ℕ, suc, ◌+◌, ◌*◌, ◌≤◌, length, take, drop}
+use Rattle.std.specs.Prelude.{List, [], ◌++◌, ◌≢◌, ◌↔◌, ◌≡◌, refl, ℕ, suc, ◌+◌, ◌*◌, ◌≤◌, length, take, drop, Result, Ok, Err}
 use Rattle.std.proofs.Common.{inr, sym, ap, subst, subst₂, ◌∙◌, arith, ext_get_or}
 use Rattle.std.proofs.Math.Seq.{take-append_seam}
 use Rattle.finite.specs.Table.{table, table_same}
@@ -10,6 +10,7 @@ use Rattle.record.specs.Barred.{Baxter}
 use Rattle.record.specs.Read.{kind_of, labels_of}
 use Rattle.record.specs.Record.{record_of}
 use Rattle.record.specs.Checked.{Readable}
+use Rattle.record.specs.declared.Refusal.{Refusal}
 use Rattle.record.proofs.Demand2Read.{Reads, demand2_read_only_list}
 use Rattle.drawing.specs.declared.Room.{Room}
 use Rattle.rooms.specs.Causes.{AcceptedRooms}
@@ -28,8 +29,6 @@ use Rattle.slicing.proofs.Size.{leaves, nodes, positions, Levels, leaves_are_roo
 use Rattle.slicing.proofs.SameTree.{same_tree→same_labels, bytes_tell}
 use Rattle.slicing.specs.TreeMap.{tree_map, tree_iff}
 use Rattle.slicing.proofs.TreeOfRooms.{rooms_stand_iff_in_order, drawn_stand_iff_in_order, line_between_rooms}
-use Rattle.slicing.specs.declared.TreeAnswer.{TreeAnswer}
-use Rattle.slicing.specs.declared.TreeAnswer.TheVariants.{Wrote, Refused}
 
 -- ---- a plan
 module _ (f : ℕ → ℕ) (n : ℕ) where
@@ -163,17 +162,17 @@ module _ {bytes other : List ℕ} (r : SlicingRecord bytes) (t : SlicingRecord o
 
 -- ---- what a call leaves
 -- a call that wrote a tree was given a slicing record
-abbrev Accepts : (bytes : List ℕ) → TreeAnswer → Type 0
-Accepts bytes (Wrote n) = Readable bytes × (¬ NotSlicing bytes) × (n ≡ length (tree_of bytes))
-Accepts bytes (Refused refusal) = Unit
+abbrev Accepts : (bytes : List ℕ) → Result ℕ Refusal → Type 0
+Accepts bytes (Ok n) = Readable bytes × (¬ NotSlicing bytes) × (n ≡ length (tree_of bytes))
+Accepts bytes (Err refusal) = Unit
 
-says_accepts : {bytes : List ℕ} {capacity : ℕ} {answer : TreeAnswer} → TreeSays bytes capacity answer → Accepts bytes answer
+says_accepts : {bytes : List ℕ} {capacity : ℕ} {answer : Result ℕ Refusal} → TreeSays bytes capacity answer → Accepts bytes answer
 says_accepts (refused_record cause) = tt
 says_accepts (not_slicing all shapes) = tt
 says_accepts (short all slicing few) = tt
 says_accepts (wrote all slicing fits) = (all, slicing, refl)
 
-module _ {bytes before after : List ℕ} {n : ℕ} (did : TreeIn bytes before (Wrote n) after) where
+module _ {bytes before after : List ℕ} {n : ℕ} (did : TreeIn bytes before (Ok n) after) where
   accepts : Readable bytes × (¬ NotSlicing bytes) × (n ≡ length (tree_of bytes))
   accepts = subst (Accepts bytes) (sym did.answered) (says_accepts (demand1_tree_cause bytes (length before)))
 
@@ -183,7 +182,7 @@ module _ {bytes before after : List ℕ} {n : ℕ} (did : TreeIn bytes before (W
 
 -- two calls left the same tree exactly if they were given the same record
 pub m103_same_bytes_iff_same_record : {bytes other before before' after after' : List ℕ} {n m : ℕ} → Bytes bytes → Bytes other
-    → TreeIn bytes before (Wrote n) after → TreeIn other before' (Wrote m) after' → (take n after ≡ take m after') ↔ (bytes ≡ other)
+    → TreeIn bytes before (Ok n) after → TreeIn other before' (Ok m) after' → (take n after ≡ take m after') ↔ (bytes ≡ other)
 m103_same_bytes_iff_same_record all all' did did' =
     let (readable, slicing, size) = accepts did in
     let (readable', slicing', size') = accepts did' in

@@ -1,20 +1,34 @@
 // The cutting tree of a slicing plan: definitions and theorems stand in specs/.
 #![tactic(auto)]
 
-use record::Refusal;
+ghost use Rattle.std.specs.Prelude.{◌≡◌};
+ghost use Rattle.slicing.specs.Cuts.{opposite};
+ghost use Rattle.slicing.specs.Tree.{kind_of_cut};
 
-// By which lines a part of a plan is cut into two parts or more.
+// By which lines a part of a plan is cut into two parts or more. The numbers are the kinds of a node that is cut so.
 #[derive(Clone, Copy)]
 pub enum Cut {
     // left to right
-    Vertical,
+    Vertical = 2,
     // bottom to top
-    Horizontal,
+    Horizontal = 3,
 }
 
-// What the call Tree answers: the tree's length in bytes, or why not.
-#[derive(Clone, Copy)]
-pub enum TreeAnswer {
-    Wrote(usize),
-    Refused(Refusal),
+impl Cut {
+    // The lines of the next level.
+    pub fn opposite(self) -> Cut
+        ensures { result ≡ opposite self }
+    {
+        match self {
+            Cut::Vertical => Cut::Horizontal,
+            Cut::Horizontal => Cut::Vertical,
+        }
+    }
+
+    // The kind of a node.
+    pub fn kind(self) -> u8
+        ensures { result ≡ kind_of_cut self }
+    {
+        self as u8
+    }
 }
