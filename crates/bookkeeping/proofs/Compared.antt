@@ -1,28 +1,22 @@
--- A summary is a book's where three totals are and the rises are what is left of the rooms.
-use mathlib.Core.List.{List}
-use mathlib.Core.Path.{◌≡◌, ap}
-use Prim.Native.Nat.{ℕ}
-use native.Mathlib.Omega.{arith}
-use Rattle.book.specs.Book.{records_of}
-use Rattle.book.specs.Summary.{Summary, summary_of}
-use Rattle.book.specs.Totals.{rises_falls_plans}
-use Rattle.bookkeeping.specs.Found.{Sums, Same}
+-- Two summaries are the same where a comparison field by field says so.
+use Rattle.std.proofs.Common.{◌≡◌, ℕ, Bool, true, false, not, ◌&&◌, ap, arith}
+use Rattle.std.proofs.lemmas.Grind.{common_steps}
+use lib.Dec.{eqb}
+use Rattle.book.specs.Summary.{Summary, held}
 
-module _ {bytes : List ℕ} {plans rooms falls : ℕ} (sums : Sums bytes plans rooms falls) (s : Summary) where
-  pub same_own : Same s plans rooms falls → s ≡ summary_of bytes
-  same_own same =
-      let t = summary_of bytes in
-      let all = rises_falls_plans (records_of bytes) sums.good in
-      let a : s.plans ≡ t.plans = omega (arith, same.0, sums.plans_are) in
-      let b : s.rooms ≡ t.rooms = omega (arith, same.1, sums.rooms_are) in
-      let c : s.rises ≡ t.rises = omega (arith, same.3, all, sums.plans_are, sums.rooms_are, sums.falls_are) in
-      let d : s.falls ≡ t.falls = omega (arith, same.2, sums.falls_are) in
-      λ i. record { plans = a i; rooms = b i; rises = c i; falls = d i }
+module _ (a b c d p q r s : ℕ) (differ : Bool) (told : differ ≡ not (eqb a p && (eqb b q && (eqb c r && eqb d s)))) where
+  pub same_summary : differ ≡ false → held a b c d ≡ held p q r s
+  same_summary alike =
+      let one : a ≡ p = grind (arith, common_steps) in
+      let two : b ≡ q = grind (arith, common_steps) in
+      let three : c ≡ r = grind (arith, common_steps) in
+      let four : d ≡ s = grind (arith, common_steps) in
+      λ i. held (one i) (two i) (three i) (four i)
 
-  pub own_same : s ≡ summary_of bytes → Same s plans rooms falls
-  own_same e =
-      let all = rises_falls_plans (records_of bytes) sums.good in
-      let a : s.plans ≡ plans = omega (arith, ap (λ (t : Summary). t.plans) e, sums.plans_are) in
-      let b : s.rooms ≡ rooms = omega (arith, ap (λ (t : Summary). t.rooms) e, sums.rooms_are) in
-      let c : s.falls ≡ falls = omega (arith, ap (λ (t : Summary). t.falls) e, sums.falls_are) in
-      (a, b, c, omega (arith, all, ap (λ (t : Summary). t.rises) e, sums.plans_are, sums.rooms_are, sums.falls_are))
+  pub other_summary : differ ≡ true → ¬ (held a b c d ≡ held p q r s)
+  other_summary unlike e =
+      let one : a ≡ p = ap (λ (t : Summary). t.plans) e in
+      let two : b ≡ q = ap (λ (t : Summary). t.rooms) e in
+      let three : c ≡ r = ap (λ (t : Summary). t.rises) e in
+      let four : d ≡ s = ap (λ (t : Summary). t.falls) e in
+      grind (arith, common_steps)

@@ -2,13 +2,12 @@
 #![tactic(auto)]
 
 ghost use Rattle.std.specs.Prelude.{◌≡◌, ◌+◌, ◌≤◌, length};
-ghost use Rattle.finite.specs.Decide.{Tells};
 ghost use Rattle.book.specs.Book.{front, longest};
-ghost use Rattle.book.specs.Summary.{held};
+ghost use Rattle.book.specs.Summary.{held, Fits32};
 ghost use Rattle.book.specs.Answer.{next_answer, part_for, BookAdd};
-ghost use Rattle.bookkeeping.specs.Found.{SumsUp, summary_in, Same, Admits, appended};
+ghost use Rattle.bookkeeping.specs.Found.{SumsUp, summary_in, counted_in, Admits, appended};
 
-use book::{AddAnswer, NextAnswer};
+use book::BookError;
 use judging::Judged;
 use record::Refusal;
 
@@ -16,37 +15,34 @@ use record::Refusal;
 fn front_size(rest: &[u8]) -> usize
     ensures { result ≡ length (front rest.now) }
 {
-    if rest.len() == 0 {
+    if rest.is_empty() {
         return 0;
     }
-    let size = 1 + (3 * steps::wide(rest[0]) + 4) / 8;
-    if size < rest.len() {
-        return size;
-    }
-    rest.len()
+    let size = 1 + (3 * usize::from(rest[0]) + 4) / 8;
+    size.min(rest.len())
 }
 
-// What reading on answers: the length of the record that begins at the place, the end, or why not.
-pub fn next_answer(book: &[u8], used: usize, place: usize) -> NextAnswer
+// What reading on answers: the length of the record that begins at the place, nothing at the end, or why not.
+pub fn next_answer(book: &[u8], used: usize, place: usize) -> Result<Option<usize>, BookError>
     ensures { result ≡ next_answer book.now used place }
 {
     if book.len() < used {
-        return NextAnswer::Refused(Refusal::BeyondBook);
+        return Err(BookError::from(Refusal::BeyondBook));
     }
     if used < place {
-        return NextAnswer::Refused(Refusal::BeyondBook);
+        return Err(BookError::from(Refusal::BeyondBook));
     }
     if 65535 < used {
-        return NextAnswer::Refused(Refusal::TooLong);
+        return Err(BookError::from(Refusal::TooLong));
     }
     if place == used {
-        return NextAnswer::End;
+        return Ok(None);
     }
     let rest = &book[place..used];
     let size = front_size(rest);
     match judging::judge(&rest[..size]) {
-        Judged::Refused(refusal) => NextAnswer::BadRecord(refusal, 1),
-        Judged::Accepted(_, _) => NextAnswer::Record(size),
+        Err(refusal) => Err(BookError::BadRecord(refusal, 1)),
+        Ok(_) => Ok(Some(size)),
     }
 }
 
@@ -55,58 +51,16 @@ pub fn next_record(book: &[u8], used: usize, place: usize) -> &[u8]
     ensures { result.now ≡ part_for (next_answer book.now used place) book.now place }
 {
     match next_answer(book, used, place) {
-        NextAnswer::Record(size) => {
+        Ok(Some(size)) => {
             let end = place + size;
-            return &book[place..end];
+            &book[place..end]
         }
-        NextAnswer::End => {
-            return &book[..0];
-        }
-        NextAnswer::BadRecord(_, _) => {
-            return &book[..0];
-        }
-        NextAnswer::Refused(_) => {
-            return &book[..0];
-        }
+        _ => &book[..0],
     }
 }
 
-// A book's totals: plans, rooms and falls; or its first bad record's refusal and ordinal.
-#[derive(Clone, Copy)]
-enum BookSum {
-    Summed(usize, usize, usize),
-    BadRecord(Refusal, usize),
-}
-
-// Judges the records of a used part one after another, and sums them up.
-fn sum_up(book: &[u8]) -> BookSum
-    requires { length book.now ≤ longest }
-    ensures { SumsUp result book.now }
-{
-    let mut place = 0;
-    let mut plans = 0;
-    let mut rooms = 0;
-    let mut falls = 0;
-    while place < book.len() {
-        let rest = &book[place..];
-        let size = front_size(rest);
-        match judging::judge(&rest[..size]) {
-            Judged::Refused(refusal) => {
-                return BookSum::BadRecord(refusal, plans + 1);
-            }
-            Judged::Accepted(n, fallen) => {
-                plans += 1;
-                rooms += n;
-                falls += fallen;
-                place += size;
-            }
-        }
-    }
-    BookSum::Summed(plans, rooms, falls)
-}
-
-// A summary as it is handed in.
-#[derive(Clone, Copy)]
+// The totals of a book, as a summary beside it has them.
+#[derive(Clone, Copy, PartialEq, Eq)]
 struct Totals {
     plans: u32,
     rooms: u32,
@@ -114,72 +68,74 @@ struct Totals {
     falls: u32,
 }
 
-// A total as a word.
-fn word(total: u32) -> usize
-    ensures { (result ≡ total) × (result ≤ 4294967295) }
-{
-    total as usize
+impl Totals {
+    // The totals with those of one more plan: each of its rooms but the first is a rise or a fall.
+    fn with(self, judged: Judged) -> Totals
+        requires { (judged.falls + 1 ≤ judged.rooms) × Fits32 (counted_in (summary_in self) judged) }
+        ensures { summary_in result ≡ counted_in (summary_in self) judged }
+    {
+        Totals {
+            plans: self.plans + 1,
+            rooms: self.rooms + judged.rooms as u32,
+            rises: self.rises + (judged.rooms - 1 - judged.falls) as u32,
+            falls: self.falls + judged.falls as u32,
+        }
+    }
 }
 
-// Whether a summary is that of a book with these plans, rooms and falls: each room but the first of a plan is a rise or a fall.
-fn same(totals: Totals, plans: usize, rooms: usize, falls: usize) -> bool
-    ensures { Tells result (Same (summary_in totals) plans rooms falls) }
+// Judges the records of a used part one after another, and sums them up; or gives its first bad record's refusal and ordinal.
+fn sum_up(book: &[u8]) -> Result<Totals, BookError>
+    requires { length book.now ≤ longest }
+    ensures { SumsUp result book.now }
 {
-    let rises = word(totals.rises);
-    if word(totals.plans) != plans {
-        return false;
-    }
-    if word(totals.rooms) != rooms {
-        return false;
-    }
-    if word(totals.falls) != falls {
-        return false;
-    }
-    if rises + word(totals.falls) + word(totals.plans) != rooms {
-        return false;
-    }
-    true
-}
-
-// Whether a record may be added: the new used length, and the record's rooms and falls; or why not.
-#[derive(Clone, Copy)]
-enum Admission {
-    Admitted(usize, usize, usize),
-    BadRecord(Refusal, usize),
-    Refused(Refusal),
-}
-
-// Judges an addition, and changes nothing.
-fn admit(book: &[u8], used: usize, record: &[u8], totals: Totals) -> Admission
-    ensures { Admits result book.now used «record».now (summary_in totals) }
-{
-    if book.len() < used {
-        return Admission::Refused(Refusal::BeyondBook);
-    }
-    if 65535 < used {
-        return Admission::Refused(Refusal::TooLong);
-    }
-    match sum_up(&book[..used]) {
-        BookSum::BadRecord(refusal, ordinal) => Admission::BadRecord(refusal, ordinal),
-        BookSum::Summed(plans, rooms, falls) => {
-            if !same(totals, plans, rooms, falls) {
-                return Admission::Refused(Refusal::OtherSummary);
+    let mut place = 0;
+    let mut sums = Totals {
+        plans: 0,
+        rooms: 0,
+        rises: 0,
+        falls: 0,
+    };
+    // A while: each record says where the next one begins.
+    while place < book.len() {
+        let rest = &book[place..];
+        let size = front_size(rest);
+        match judging::judge(&rest[..size]) {
+            Err(refusal) => {
+                let before = sums.plans as usize;
+                return Err(BookError::BadRecord(refusal, before + 1));
             }
-            match judging::judge(record) {
-                Judged::Refused(refusal) => Admission::Refused(refusal),
-                Judged::Accepted(n, fallen) => {
-                    let size = used + record.len();
-                    if 65535 < size {
-                        return Admission::Refused(Refusal::TooLong);
-                    }
-                    if book.len() < size {
-                        return Admission::Refused(Refusal::ShortOutput);
-                    }
-                    Admission::Admitted(size, n, fallen)
-                }
+            Ok(judged) => {
+                sums = sums.with(judged);
+                place += size;
             }
         }
     }
+    Ok(sums)
+}
+
+// Judges an addition, and changes nothing: the totals after it.
+fn admit(book: &[u8], used: usize, record: &[u8], totals: Totals) -> Result<Totals, BookError>
+    ensures { Admits result book.now used «record».now (summary_in totals) }
+{
+    if book.len() < used {
+        return Err(BookError::from(Refusal::BeyondBook));
+    }
+    if 65535 < used {
+        return Err(BookError::from(Refusal::TooLong));
+    }
+    let sums = sum_up(&book[..used])?;
+    if totals != sums {
+        return Err(BookError::from(Refusal::OtherSummary));
+    }
+    let judged = judging::judge(record)?;
+    let size = used + record.len();
+    if 65535 < size {
+        return Err(BookError::from(Refusal::TooLong));
+    }
+    if book.len() < size {
+        return Err(BookError::from(Refusal::ShortOutput));
+    }
+    Ok(totals.with(judged))
 }
 
 // Copies a record behind the used part, which has the room.
@@ -190,7 +146,8 @@ fn append(book: &mut [u8], used: usize, record: &[u8])
     book[used..used + record.len()].copy_from_slice(record);
 }
 
-// Adds a record behind the used part, and its totals to the summary; or says why not, and changes nothing.
+// Adds a record behind the used part, and its totals to the summary; or says why not, and changes nothing. The four totals come from C,
+// each by its own pointer.
 pub fn add_record(
     book: &mut [u8],
     used: usize,
@@ -199,7 +156,7 @@ pub fn add_record(
     rooms: &mut u32,
     rises: &mut u32,
     falls: &mut u32,
-) -> AddAnswer
+) -> Result<usize, BookError>
     ensures { BookAdd book.old used «record».now
         (held plans.old rooms.old rises.old falls.old) result
         book.new (held plans.new rooms.new rises.new falls.new) }
@@ -210,16 +167,11 @@ pub fn add_record(
         rises: *rises,
         falls: *falls,
     };
-    match admit(book, used, record, totals) {
-        Admission::BadRecord(refusal, ordinal) => AddAnswer::BadRecord(refusal, ordinal),
-        Admission::Refused(refusal) => AddAnswer::Refused(refusal),
-        Admission::Admitted(size, n, fallen) => {
-            append(book, used, record);
-            *plans += 1;
-            *rooms += n as u32;
-            *rises += (n - 1 - fallen) as u32;
-            *falls += fallen as u32;
-            AddAnswer::Added(size)
-        }
-    }
+    let after = admit(book, used, record, totals)?;
+    append(book, used, record);
+    *plans = after.plans;
+    *rooms = after.rooms;
+    *rises = after.rises;
+    *falls = after.falls;
+    Ok(used + record.len())
 }

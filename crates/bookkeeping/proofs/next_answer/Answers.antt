@@ -8,9 +8,8 @@ use lib.ListN.{length, take, drop}
 use Rattle.book.specs.Book.{front}
 use Rattle.book.specs.Answer.{Beyond, record_at}
 use Rattle.book.specs.Demand1.{bad_record, next, demand1_next_answer}
-use Rattle.book.specs.declared.NextAnswer.TheVariants.{Record}
+use Rattle.std.specs.Prelude.{Some, Ok, Err}
 use Rattle.judging.specs.Judge.{Judges, Accepts}
-use Rattle.judging.specs.declared.Judged.TheVariants.{Refused}
 use Rattle.bookkeeping.proofs.Front.{rest_is, record_is}
 use Rattle.bookkeeping.proofs.next_answer.Goals as goal
 use Rattle.bookkeeping.proofs.next_answer.Goals.{After-judge, Else-used-place}
@@ -28,16 +27,18 @@ part_is j =
     let rest = take (s.used - s.place) (drop s.place s.book.now) in
     ap (λ (size : ℕ). take size rest) j.front_size-size.ensures ∙ record_is s.book.now s.used s.place
 
-pub returns-in-Refused : goal.returns-in-Refused
-returns-in-Refused c =
+pub returns-in-Err : goal.returns-in-Err
+returns-in-Err c =
     let s = c.args in
     demand1_next_answer s.book.now s.used s.place
-    (bad_record (inside (goal.at.returns-in-Refused c).Else-used-place, omega (arith, c.if-used-gt65535.false)) c.if-place-used.false
-    (subst (λ (part : List ℕ). Judges (Refused c.in-Refused.refusal) part) (part_is (goal.at.returns-in-Refused c).After-judge) c.in-Refused.ensures))
+    (bad_record (inside (goal.at.returns-in-Err c).Else-used-place, omega (arith, c.if-used-gt65535.false)) c.if-place-used.false
+    (subst (λ (part : List ℕ). Judges (Err c.in-Err.refusal) part) (part_is (goal.at.returns-in-Err c).After-judge) c.in-Err.ensures))
 
-pub returns-in-Accepted : goal.returns-in-Accepted
-returns-in-Accepted c =
+pub returns-in-Ok : goal.returns-in-Ok
+returns-in-Ok c =
     let s = c.args in
-    let accepts = subst (λ (part : List ℕ). Accepts part c.in-Accepted.field-0 c.in-Accepted.field-1) (part_is (goal.at.returns-in-Accepted c).After-judge) c.in-Accepted.ensures in
-    ap Record (c.front_size-size.ensures ∙ ap length (ap front (rest_is s.book.now s.used s.place)))
-    ∙ demand1_next_answer s.book.now s.used s.place (next (inside (goal.at.returns-in-Accepted c).Else-used-place, omega (arith, c.if-used-gt65535.false)) c.if-place-used.false accepts.readable)
+    let judged = c.in-Ok.field-0 in
+    let accepts = subst (λ (part : List ℕ). Accepts part judged.rooms judged.falls) (part_is (goal.at.returns-in-Ok c).After-judge) c.in-Ok.ensures in
+    ap (λ (size : ℕ). Ok (Some size)) (c.front_size-size.ensures ∙ ap length (ap front (rest_is s.book.now s.used s.place)))
+    ∙ demand1_next_answer s.book.now s.used s.place
+    (next (inside (goal.at.returns-in-Ok c).Else-used-place, omega (arith, c.if-used-gt65535.false)) c.if-place-used.false accepts.readable)

@@ -7,11 +7,12 @@ use lib.ListN.{length, take, drop, length-drop}
 use lib.Seq.{take_all}
 use Rattle.book.specs.Book.{front}
 use Rattle.judging.specs.Judge.{Judges, Accepts}
-use Rattle.judging.specs.declared.Judged.TheVariants.{Refused}
+use Rattle.std.specs.Prelude.{Err}
+use Rattle.bookkeeping.specs.Found.{summary_in}
 use Rattle.bookkeeping.proofs.Front.{front_taken}
-use Rattle.bookkeeping.proofs.Summing.{Summing, summing_end, summing_bad, summing_next}
+use Rattle.bookkeeping.proofs.Summing.{Summing, summing_end, summing_bad, summing_next, summing_fits}
 use Rattle.bookkeeping.proofs.sum_up.Goals as goal
-use Rattle.bookkeeping.proofs.sum_up.Goals.{After-front_size-size, In-Accepted}
+use Rattle.bookkeeping.proofs.sum_up.Goals.{After-front_size-size, In-Ok}
 
 -- what stands from the place on, and the part of it that is judged
 rest_is : (bytes : List ℕ) (place : ℕ) → take (length bytes - place) (drop place bytes) ≡ drop place bytes
@@ -26,30 +27,29 @@ part_is bytes place e =
     let rest = take (length bytes - place) (drop place bytes) in
     ap (λ (size : ℕ). take size rest) e ∙ front_taken rest ∙ ap front (rest_is bytes place)
 
-next : (c : In-Accepted) → let l = c.loop-place in
-    Summing c.args.book.now (l.place + length (front (drop l.place c.args.book.now))) (l.plans + 1) (l.rooms + c.in-Accepted.n)
-    (l.falls + c.in-Accepted.fallen)
-next c =
+accepted : (c : In-Ok) → Accepts (front (drop c.loop-place.place c.args.book.now)) c.in-Ok.judged.rooms c.in-Ok.judged.falls
+accepted c =
     let part = part_is c.args.book.now c.loop-place.place c.front_size-size.ensures in
-    summing_next c.loop-place.invariant c.loop-place-test.true
-    (subst (λ (part : List ℕ). Accepts part c.in-Accepted.n c.in-Accepted.fallen) part c.in-Accepted.ensures)
+    subst (λ (part : List ℕ). Accepts part c.in-Ok.judged.rooms c.in-Ok.judged.falls) part c.in-Ok.ensures
 
-pub returns-in-Refused : goal.returns-in-Refused
-returns-in-Refused c =
+pub returns-in-Err : goal.returns-in-Err
+returns-in-Err c =
     let part = part_is c.args.book.now c.loop-place.place c.front_size-size.ensures in
     summing_bad c.loop-place.invariant c.loop-place-test.true
-    (subst (λ (part : List ℕ). Judges (Refused c.in-Refused.refusal) part) part c.in-Refused.ensures)
+    (subst (λ (part : List ℕ). Judges (Err c.in-Err.refusal) part) part c.in-Err.ensures)
 
-pub overflow_add-falls : goal.overflow_add-falls
-overflow_add-falls c =
-    let n = next (goal.at.overflow_add-falls c).In-Accepted in
-    record { fits = omega (arith, n.inside, n.plans_few, n.rooms_few, n.falls_few, size_is (goal.at.overflow_add-falls c).After-front_size-size, c.requires) }
+pub with-sums-requires : goal.with-sums-requires
+with-sums-requires c =
+    summing_fits c.loop-place.invariant c.loop-place-test.true {judged = c.in-Ok.judged} (accepted (goal.at.with-sums-requires c).In-Ok)
+    (omega (arith, c.requires))
 
 pub loop-place-preserved : goal.loop-place-preserved
 loop-place-preserved c =
     let l = c.loop-place in
-    subst (λ (size : ℕ). Summing c.args.book.now (l.place + size) (l.plans + 1) (l.rooms + c.in-Accepted.n) (l.falls + c.in-Accepted.fallen))
-    (sym (size_is (goal.at.loop-place-preserved c).After-front_size-size)) (next (goal.at.loop-place-preserved c).In-Accepted)
+    let next = summing_next l.invariant c.loop-place-test.true {judged = c.in-Ok.judged} (accepted (goal.at.loop-place-preserved c).In-Ok) in
+    subst (λ (size : ℕ). Summing c.args.book.now (l.place + size) (summary_in c.with-sums.result))
+    (sym (size_is (goal.at.loop-place-preserved c).After-front_size-size))
+    (subst (Summing c.args.book.now (l.place + length (front (drop l.place c.args.book.now)))) (sym c.with-sums.ensures) next)
 
 pub returns : goal.returns
 returns c = summing_end c.loop-place.invariant (omega (arith, c.loop-place-test.false))
