@@ -17,13 +17,12 @@ use Rattle.slicing.specs.Blocks.{Whole}
 use Rattle.slicing.proofs.Blocks.{blocks_count}
 use Rattle.slicing.proofs.Size.{bytes_of_blocks}
 use Rattle.slicing.proofs.Lines.{append, count_append, bytes_append, blocks_joined, blocks_from, blocks_upto, leaf_block, node_block, line_between_lem, several_blocks, one_block_lem}
-use Rattle.slicing.specs.Interval.{place_of, lowest_of_first, lowest_of_rest}
-use Rattle.slicing.proofs.Interval.{first_places→parts, interval_of_first, interval_of_rest}
+use Rattle.slicing.specs.Interval.{lowest_of_first, lowest_of_rest}
+use Rattle.slicing.proofs.Interval.{interval_of_first, interval_of_rest}
 use Rattle.slicing.specs.declared.Cut.{Cut}
 use Rattle.slicing.specs.declared.Cut.TheVariants.{Vertical, Horizontal}
-use Rattle.trees.specs.Block.{BlockOf, FirstBefore, one_block, FindsLine, TreesStand, NoTrees, Part, EndsPart}
-use Rattle.trees.specs.declared.Line.{Line}
-use Rattle.trees.specs.declared.Line.TheVariants.{Before as LineBefore, Nowhere}
+use Rattle.trees.specs.Block.{BlockOf, FirstBefore, one_block, FindsLine, TreesStand, NoTrees, EndsPart}
+use Rattle.std.specs.Prelude.{Option, Some, None}
 
 -- ---- the rooms before a line, and those after it
 first_bytes : (cut : Cut) (s m e lowest : ℕ) → s < m → m ≤ e → lowest + e ≤ s + 256 → lowest_of_first cut m e lowest + m ≤ s + 256
@@ -207,14 +206,6 @@ inner_missing {f} {cut} {lines} {s} {e} more last turned missing = record {
       missing.none_such inner (subst (λ (c : Cut). Blocks f c inner s e) (sym turned) is);
 }
 
--- each tree has a byte
-bytes_at_least : (children : Trees) → count children ≤ length (bytes_of_all children)
-unfolding bytes_of
-bytes_at_least none = omega arith
-bytes_at_least (leaf then rest) = omega (arith, bytes_at_least rest)
-bytes_at_least (node cut children then rest) =
-    omega (arith, length-append (bytes_of (node cut children)) (bytes_of_all rest), bytes_at_least rest)
-
 -- ---- as many as there are blocks, and no more bytes than there is room for
 module _ {f : ℕ → ℕ} {cut : Cut} {s e : ℕ} {before after : List ℕ} {at end number : ℕ}
     (h : TreesStand f cut s e before at after end number) where
@@ -231,28 +222,9 @@ module _ {f : ℕ → ℕ} {cut : Cut} {s e : ℕ} {before after : List ℕ} {at
       go none q = absurd (omega arith)
       go (child then rest) blocks = omega arith
 
-  -- so they do not end at 0
-  pub some_bytes : s < e → 1 ≤ end
-  some_bytes some = omega (arith, h.put.next, h.counted, some_tree some, bytes_at_least h.children)
-
 -- ---- where a part ends
-pub ends_part : {labels : List ℕ} {from to lowest : ℕ} (cut : Cut) (r : Line) → BlockOf labels from to lowest
+pub ends_part : {labels : List ℕ} {from to lowest : ℕ} (cut : Cut) (r : Option ℕ) → BlockOf labels from to lowest
     → FirstBefore labels cut from to → FindsLine r (label_at labels) cut from to → EndsPart r labels cut from to
-ends_part cut (LineBefore m) b first (some, more, line) =
+ends_part cut (Some m) b first (some, more, line) =
     record { some = some; within = omega arith; parts = line; whole = λ q. absurd (omega arith) }
-ends_part cut Nowhere b first whole = no_line_missing (two_rooms b cut first) first whole
-
-pub all_part : {labels : List ℕ} {from to lowest : ℕ} (cut : Cut) → BlockOf labels from to lowest → ¬ FirstBefore labels cut from to
-    → Part labels cut from to to
-all_part cut b last =
-    record { some = b.interval.some; within = omega arith; parts = λ i a c j d e. absurd (omega arith); whole = λ q. last }
-
-pub leaf_part : {labels : List ℕ} {from to lowest : ℕ} (cut : Cut) → BlockOf labels from to lowest
-    → place_of cut from to lowest (label_at labels from) ≡ from → Part labels cut from (from + 1) to
-leaf_part {labels} {from} {to} {lowest} cut b in_place = record {
-  some = omega arith;
-  within = omega (arith, b.interval.some);
-  parts = first_places→parts b.interval cut (from + 1) (omega arith) (omega (arith, b.interval.some)) (λ i a c.
-      let same : from ≡ i = omega arith in subst (λ (x : ℕ). place_of cut from to lowest (label_at labels x) < from + 1) same (omega arith));
-  whole = λ q first. omega (arith, two_rooms b cut first);
-}
+ends_part cut None b first whole = no_line_missing (two_rooms b cut first) first whole

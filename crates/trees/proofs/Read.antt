@@ -1,6 +1,7 @@
 -- The plan of a record that is read: its labels are those of a plan, and what is written of them is the record's tree.
 use mathlib.Core.List.{List}
 use mathlib.Core.Path.{◌≡◌, sym, ap, subst, ◌∙◌}
+use Rattle.std.specs.Prelude.{Option, Ok, Err}
 use Prim.Native.Nat.{ℕ, suc, ◌≤◌, ◌<◌}
 use native.Mathlib.Omega.{arith}
 use lib.ListN.{length, take, drop}
@@ -17,7 +18,6 @@ use Rattle.reading.specs.Answer.{triples_of}
 use Rattle.answers.specs.Drawn.{labels_front}
 use Rattle.slicing.specs.Answer.{NotSlicing, tree_answer}
 use Rattle.slicing.specs.Demand1.{not_slicing, short, wrote, demand1_tree_answer}
-use Rattle.slicing.specs.declared.TreeAnswer.TheVariants.{Wrote, Refused}
 use Rattle.trees.specs.Written.{Plan, TreeWritten, Writes}
 use Rattle.trees.specs.declared.TreesPut.{TreesPut}
 
@@ -43,20 +43,20 @@ module _ {bytes : List ℕ} {n : ℕ} (kind : n ≡ kind_of bytes) (readable : R
     }
 
     -- what is written of them
-    pub writes_plan : {r : TreesPut} {after : List ℕ} → Writes r (label_at (take n now)) (length (take n now)) after
+    pub writes_plan : (r : Option TreesPut) (after : List ℕ) → Writes r (label_at (take n now)) (length (take n now)) after
         → Writes r (label_at (labels_of bytes)) (kind_of bytes) after
-    writes_plan {r} {after} h =
+    writes_plan r after h =
         subst (λ (m : ℕ). Writes r (label_at (labels_of bytes)) m after) one.size
         (subst (λ (l : List ℕ). Writes r (label_at l) (length l) after) labels_are h)
 
   -- ---- the answers
   module _ (capacity : ℕ) where
-    pub not_slicing_answer : NotSlicing bytes → Refused refusal.NotSlicing ≡ tree_answer bytes capacity
+    pub not_slicing_answer : NotSlicing bytes → Err refusal.NotSlicing ≡ tree_answer bytes capacity
     not_slicing_answer h = demand1_tree_answer bytes capacity (not_slicing readable h)
 
     module _ {size : ℕ} {after : List ℕ} (w : TreeWritten (label_at (labels_of bytes)) (kind_of bytes) size after) where
-      pub short_answer : capacity < size → Refused refusal.ShortOutput ≡ tree_answer bytes capacity
+      pub short_answer : capacity < size → Err refusal.ShortOutput ≡ tree_answer bytes capacity
       short_answer h = demand1_tree_answer bytes capacity (short readable w.slicing (omega (arith, w.size)))
 
-      pub wrote_answer : size ≤ capacity → Wrote size ≡ tree_answer bytes capacity
-      wrote_answer h = ap Wrote w.size ∙ demand1_tree_answer bytes capacity (wrote readable w.slicing (λ l. omega (arith, w.size)))
+      pub wrote_answer : size ≤ capacity → Ok size ≡ tree_answer bytes capacity
+      wrote_answer h = ap Ok w.size ∙ demand1_tree_answer bytes capacity (wrote readable w.slicing (λ l. omega (arith, w.size)))

@@ -1,6 +1,7 @@
 -- A whole plan is a block, and what is put of it is its cutting tree.
 use mathlib.Core.List.{List, append-nil}
 use mathlib.Core.Path.{◌≡◌, sym, ap, subst, ◌∙◌}
+use Rattle.std.specs.Prelude.{Option, Some, None}
 use Prim.Native.Nat.{ℕ, suc, ◌+◌, ◌-◌}
 use native.Mathlib.Omega.{arith}
 use lib.ListN.{length, get_or}
@@ -71,6 +72,7 @@ module _ (labels : List ℕ) (plan : Plan labels) where
       missing.none_such (tree then none)
       (tree_is_block f cut tree 1 (n + 1) last (omega (arith, plan.some)) (subst (TreeOf f tree 1) (sym end_is) is)))
 
-  pub writes : {r : TreesPut} {cut : Cut} {before after : List ℕ} → ¬ FirstBefore labels cut 1 (length labels + 1)
+  pub writes : (r : Option TreesPut) (cut : Cut) (before after : List ℕ) → ¬ FirstBefore labels cut 1 (length labels + 1)
       → Puts r (label_at labels) cut 1 (length labels + 1) before 0 after → Writes r (label_at labels) (length labels) after
-  writes last h = record { missing = λ none. not_slicing last (h.missing none); stand = λ some. tree_written last (h.stand some) }
+  writes (Some put) cut before after last h = tree_written last h
+  writes None cut before after last h = not_slicing last h

@@ -1,5 +1,5 @@
 -- What the tree writer's contracts cite: a block of rooms, the room that its trees need, and what is put of them.
-use Rattle.std.specs.Prelude.{List, ◌≡◌, ℕ, suc, ◌+◌, ◌-◌, ◌*◌, ◌≤◌, ◌<◌, length}
+use Rattle.std.specs.Prelude.{List, ◌≡◌, ℕ, suc, ◌+◌, ◌-◌, ◌*◌, ◌≤◌, ◌<◌, length, Option, Some, None}
 use Rattle.std.proofs.Math.Logic.{ite}
 use Rattle.finite.specs.Put.{Put}
 use Rattle.record.specs.Labels.{label_at}
@@ -8,8 +8,6 @@ use Rattle.slicing.specs.Tree.{Trees, count, Blocks, bytes_of_all}
 use Rattle.slicing.specs.Blocks.{Whole}
 use Rattle.slicing.specs.Interval.{Interval}
 use Rattle.slicing.specs.declared.Cut.{Cut}
-use Rattle.trees.specs.declared.Line as line
-use Rattle.trees.specs.declared.Line.TheVariants.{Before as LineBefore, Nowhere}
 use Rattle.trees.specs.declared.TreesPut.{TreesPut}
 
 -- the rooms at positions `from` to `to` - 1 of a list of labels: their labels are those from `lowest` on
@@ -36,9 +34,9 @@ abbrev pub BlocksFit : (labels : List ℕ) → Cut → (from to at places : ℕ)
 BlocksFit labels cut from to at places = at + 3 * to + 2 * one_block labels cut from to ≤ places + 3 * from + 4
 
 -- a line that parts rooms, or that there is none
-abbrev pub FindsLine : line.Line → (ℕ → ℕ) → Cut → (s e : ℕ) → Type 0
-FindsLine (LineBefore m) f cut s e = (s < m) × (m < e) × Parts f cut s m e
-FindsLine Nowhere f cut s e = Whole f cut s e
+abbrev pub FindsLine : Option ℕ → (ℕ → ℕ) → Cut → (s e : ℕ) → Type 0
+FindsLine (Some m) f cut s e = (s < m) × (m < e) × Parts f cut s m e
+FindsLine None f cut s e = Whole f cut s e
 
 -- the trees of the blocks of a cut are put
 pub record TreesStand (f : ℕ → ℕ) (cut : Cut) (s e : ℕ) (before : List ℕ) (at : ℕ) (after : List ℕ) (end number : ℕ) : Type 0 where
@@ -51,10 +49,10 @@ pub record TreesStand (f : ℕ → ℕ) (cut : Cut) (s e : ℕ) (before : List �
 pub record NoTrees (f : ℕ → ℕ) (cut : Cut) (s e : ℕ) : Type 0 where
   pub none_such : (children : Trees) → ¬ Blocks f cut children s e
 
--- the one or the other, as the end tells
-pub record Puts (r : TreesPut) (f : ℕ → ℕ) (cut : Cut) (s e : ℕ) (before : List ℕ) (at : ℕ) (after : List ℕ) : Type 0 where
-  pub missing : r.end ≡ 0 → NoTrees f cut s e
-  pub stand : ¬ (r.end ≡ 0) → TreesStand f cut s e before at after r.end r.number
+-- the one or the other
+abbrev pub Puts : Option TreesPut → (ℕ → ℕ) → Cut → (s e : ℕ) → (before : List ℕ) → (at : ℕ) → (after : List ℕ) → Type 0
+Puts (Some put) f cut s e before at after = TreesStand f cut s e before at after put.end put.number
+Puts None f cut s e before at after = NoTrees f cut s e
 
 -- where the first part of rooms ends: at a line, or, where all are one block, with the last room; or that they have no tree
 pub record Part (labels : List ℕ) (cut : Cut) (from m to : ℕ) : Type 0 where
@@ -63,6 +61,6 @@ pub record Part (labels : List ℕ) (cut : Cut) (from m to : ℕ) : Type 0 where
   pub parts : Parts (label_at labels) cut from m to
   pub whole : m ≡ to → ¬ FirstBefore labels cut from to
 
-abbrev pub EndsPart : line.Line → (labels : List ℕ) → Cut → (from to : ℕ) → Type 0
-EndsPart (LineBefore m) labels cut from to = Part labels cut from m to
-EndsPart Nowhere labels cut from to = NoTrees (label_at labels) cut from to
+abbrev pub EndsPart : Option ℕ → (labels : List ℕ) → Cut → (from to : ℕ) → Type 0
+EndsPart (Some m) labels cut from to = Part labels cut from m to
+EndsPart None labels cut from to = NoTrees (label_at labels) cut from to

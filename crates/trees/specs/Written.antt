@@ -1,5 +1,5 @@
 -- What the writer leaves for a whole plan.
-use Rattle.std.specs.Prelude.{List, ◌≡◌, ℕ, ◌+◌, ◌*◌, ◌≤◌, length, take}
+use Rattle.std.specs.Prelude.{List, ◌≡◌, ℕ, ◌+◌, ◌*◌, ◌≤◌, length, take, Option, Some, None}
 use Rattle.record.specs.Labels.{label_at, EachOnce}
 use Rattle.slicing.specs.Slicing.{Shaped, Slicing}
 use Rattle.slicing.specs.Tree.{bytes_of}
@@ -19,7 +19,7 @@ pub record TreeWritten (f : ℕ → ℕ) (n end : ℕ) (after : List ℕ) : Type
   pub small : end + 2 ≤ 3 * n
   pub front : take end after ≡ bytes_of (cutting_tree f n)
 
--- it is not slicing, or its tree stands there, as the end tells
-pub record Writes (r : TreesPut) (f : ℕ → ℕ) (n : ℕ) (after : List ℕ) : Type 0 where
-  pub missing : r.end ≡ 0 → Shaped f n
-  pub stand : ¬ (r.end ≡ 0) → TreeWritten f n r.end after
+-- its tree stands there, or it is not slicing
+abbrev pub Writes : Option TreesPut → (f : ℕ → ℕ) → (n : ℕ) → (after : List ℕ) → Type 0
+Writes (Some put) f n after = TreeWritten f n put.end after
+Writes None f n after = Shaped f n

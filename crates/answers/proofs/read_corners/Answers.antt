@@ -1,5 +1,7 @@
 -- `answers::read_corners` meets its contract: the record is read or refused, and where there are places enough the labels are written and the corners are the drawing's.
-use Rattle.std.proofs.Common.{zero-le, arith, Err, rules}
+use Rattle.std.proofs.Common.{sym, subst, ◌∙◌, ℕ, zero-le, Result, Err, arith, rules}
+use Rattle.record.specs.declared.Refusal.{Refusal}
+use Rattle.reading.specs.Answer.{Leaves}
 use Rattle.reading.specs.SameRefusal.{same_refusal}
 use Rattle.answers.specs.Corners.{CornersIn}
 use Rattle.answers.specs.Drawn.{labels_front, drawing_held}
@@ -8,11 +10,14 @@ use Rattle.answers.proofs.read_corners.Goals as goal
 
 pub returns-in_err-n : goal.returns-in_err-n
 returns-in_err-n c =
-    let refused : CornersIn c.args.«record».now c.args.labels.now c.args.places (Err c.in_err-n.field-0.0) c.read.new.labels c.read.new.corners = record {
-      answered = same_refusal Err c.args.«record».now _ c.in_err-n.field-0.0 c.in_err-n.ensures.answer;
+    let bytes = c.args.«record».now in
+    let leaves = subst (λ (r : Result ℕ Refusal). Leaves r bytes 0 c.min-fit.result c.args.labels.now c.args.corners.now c.read.new.labels c.read.new.corners)
+    c.in_err-n.was c.read.ensures.leaves in
+    let refused : CornersIn bytes c.args.labels.now c.args.places (Err c.in_err-n.field-0.0) c.read.new.labels c.read.new.corners = record {
+      answered = same_refusal Err bytes _ c.in_err-n.field-0.0 (sym c.in_err-n.was ∙ c.read.ensures.answer);
       few = zero-le;
       fit = zero-le;
-      labels_are = c.in_err-n.ensures.leaves.0;
+      labels_are = leaves.0;
       corners_are = tt;
     } in search rules
 

@@ -23,8 +23,8 @@ loop-end-preserved c =
     let inv = l.invariant in
     search_goes_on c.requires.0.interval inv c.loop-end-test.true
     (omega (arith, inv.upto, c.if-i-end.false)) (omega (arith, inv.downto, c.if-j-start.false))
-    (c.larger-end.ensures ∙ ap (λ (x : ℕ). max l.end (x + 1)) c.place.ensures.0)
-    (c.smaller-start.ensures ∙ ap (λ (x : ℕ). min l.start x) c.place-in-loop-end.ensures.0)
+    (c.max-end.ensures ∙ ap (λ (x : ℕ). max l.end (x + 1)) c.place.ensures.0)
+    (c.min-start.ensures ∙ ap (λ (x : ℕ). min l.start x) c.place-in-loop-end.ensures.0)
 
 pub returns : goal.returns
 returns c = let inv = c.loop-end.invariant in no_line c.requires.0.interval inv (omega (arith, c.loop-end-test.false))

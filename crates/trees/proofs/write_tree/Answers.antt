@@ -1,7 +1,5 @@
 -- `trees::write_tree` meets its contract: all rooms are one block of a cut, and its tree is put.
-use Prim.Native.Nat.{◌+◌}
-use native.Mathlib.Omega.{arith}
-use lib.ListN.{length}
+use Rattle.std.proofs.Common.{◌+◌, length, arith}
 use Rattle.trees.proofs.Putting.{one_at_most}
 use Rattle.trees.proofs.Whole.{all_block, one_block_of, writes}
 use Rattle.trees.proofs.write_tree.Goals as goal
@@ -15,4 +13,4 @@ pub returns : goal.returns
 returns c =
     let l = c.args.labels.now in
     let cut = c.whole_cut-cut in
-    writes l c.requires.0 (one_block_of l c.requires.0 cut.result cut.ensures) c.put_blocks.ensures
+    writes l c.requires.0 c.put_blocks.result cut.result _ _ (one_block_of l c.requires.0 cut.result cut.ensures) c.put_blocks.ensures
