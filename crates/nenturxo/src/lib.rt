@@ -17,11 +17,10 @@ ghost use Rattle.book.specs.Answer.{next_answer, BookAdd};
 ghost use Rattle.traces.specs.Answer.{Traced};
 ghost use Rattle.counting.specs.Answer.{PlanCount, PlanTotal};
 ghost use Rattle.entering.specs.Answer.{slices as room_slices, RoomsIn};
-ghost use Rattle.codes.specs.Code.{Coded, rooms_code, labels_code, pattern_code, tidy_code, record_code, tree_code, question_code};
-ghost use Rattle.codes.specs.Code.{next_code, add_code, corners_code, slack_code, placing_code, groups_code, trace_code, count_code};
+ghost use Rattle.codes.specs.Code.{Coded, size_code, pattern_code, question_code, next_code, add_code, slack_code, placing_code};
+ghost use Rattle.codes.specs.Code.{groups_code, trace_code};
 
 use drawing::Room;
-use sizes::SlackAnswer;
 
 // Rooms in: the record's length, the record, the label and the position of each room in list order and the names by position from the
 // front of the slices, or the refusal's number negated, and nothing written.
@@ -33,22 +32,22 @@ pub extern "C" fn nenturxo_rooms_in(
     positions: &mut [u8],
     names: &mut [u16],
 ) -> i32
-    ensures { Coded rooms_code result (λ answer. RoomsIn rooms.now
+    ensures { Coded size_code result (λ answer. RoomsIn rooms.now
         (room_slices «record».old labels.old positions.old names.old) answer
         (room_slices «record».new labels.new positions.new names.new)) }
 {
     let answer = plans::rooms_in(rooms, record, labels, positions, names);
-    codes::rooms_code(answer)
+    codes::size_code(answer)
 }
 
 // Labels in: the record's length, written from the front of `record`, or the refusal's number negated, and nothing written.
 #[unsafe(no_mangle)]
 pub extern "C" fn nenturxo_labels_in(labels: &[u8], record: &mut [u8]) -> i32
-    ensures { Coded labels_code result
+    ensures { Coded size_code result
         (λ answer. LabelsIn labels.now «record».old answer «record».new) }
 {
     let answer = labels::labels_in(labels, record);
-    codes::labels_code(answer)
+    codes::size_code(answer)
 }
 
 // Pattern: the number of the first barred pattern, 0 where there is none, or the refusal's number negated.
@@ -63,33 +62,33 @@ pub extern "C" fn nenturxo_pattern(labels: &[u8]) -> i64
 // Tidy: the length of the tidy text, written from the front of `tidy`, or the refusal's number negated, and nothing written.
 #[unsafe(no_mangle)]
 pub extern "C" fn nenturxo_tidy(text: &[u8], tidy: &mut [u8]) -> i32
-    ensures { Coded tidy_code result
+    ensures { Coded size_code result
         (λ answer. Tidied text.now tidy.old answer tidy.new) }
 {
     let answer = tidy::tidy(text, tidy);
-    codes::tidy_code(answer)
+    codes::size_code(answer)
 }
 
 // Record in: the number of rooms, their labels and the rooms by position from the front of the slices, or the refusal's number negated,
 // and nothing written.
 #[unsafe(no_mangle)]
 pub extern "C" fn nenturxo_record_in(record: &[u8], labels: &mut [u8], rooms: &mut [Room]) -> i32
-    ensures { Coded record_code result (λ answer. RecordIn «record».now
+    ensures { Coded size_code result (λ answer. RecordIn «record».now
         (slices labels.old rooms.old) answer (slices labels.new rooms.new)) }
 {
     let answer = drawn::record_in(record, labels, rooms);
-    codes::record_code(answer)
+    codes::size_code(answer)
 }
 
 // Tree: the length of the cutting tree of a slicing plan, written from the front of `tree`, or the refusal's number negated, and nothing
 // written.
 #[unsafe(no_mangle)]
 pub extern "C" fn nenturxo_tree(record: &[u8], tree: &mut [u8]) -> i32
-    ensures { Coded tree_code result
+    ensures { Coded size_code result
         (λ answer. TreeIn «record».now tree.old answer tree.new) }
 {
     let answer = trees::tree(record, tree);
-    codes::tree_code(answer)
+    codes::size_code(answer)
 }
 
 // The question: the side's number, 4 more where the two touch, 8 more where their relation is direct, or the refusal's number negated.
@@ -141,12 +140,12 @@ pub extern "C" fn nenturxo_lowest_corners(
     x: &mut [u32],
     y: &mut [u32],
 ) -> i32
-    ensures { Coded corners_code result (λ answer. LowestCorners «record».now
+    ensures { Coded size_code result (λ answer. LowestCorners «record».now
         (each_way widths.now heights.now) (each_way x.old y.old) answer
         (each_way x.new y.new)) }
 {
     let answer = packing::lowest_corners(record, widths, heights, x, y);
-    codes::corners_code(answer)
+    codes::size_code(answer)
 }
 
 // Slack: 0, with the slack across and upward in two numbers, or the refusal's number negated, and nothing written.
@@ -165,12 +164,12 @@ pub extern "C" fn nenturxo_slack(
         (each_way across.old up.old) answer (each_way across.new up.new)) }
 {
     match packing::slack(record, widths, heights, outline_width, outline_height) {
-        SlackAnswer::Slack(x, y) => {
-            *across = x;
-            *up = y;
+        Ok(slack) => {
+            *across = slack.across;
+            *up = slack.up;
             0
         }
-        SlackAnswer::Refused(refusal) => codes::refused(refusal),
+        Err(refusal) => codes::refused(refusal),
     }
 }
 
@@ -215,7 +214,7 @@ pub extern "C" fn nenturxo_trace(trace: &[u8], states: &mut [u16]) -> i64
 // Plan count: how many accepted records of n rooms have so many rises, or the refusal's number negated.
 #[unsafe(no_mangle)]
 pub extern "C" fn nenturxo_plan_count(n: u8, rises: u8) -> i64
-    ensures { Coded count_code result (PlanCount n rises) }
+    ensures { Coded size_code result (PlanCount n rises) }
 {
     let answer = tallying::plan_count(n, rises);
     codes::count_code(answer)
@@ -224,7 +223,7 @@ pub extern "C" fn nenturxo_plan_count(n: u8, rises: u8) -> i64
 // Plan total: how many accepted records of n rooms there are, or the refusal's number negated.
 #[unsafe(no_mangle)]
 pub extern "C" fn nenturxo_plan_total(n: u8) -> i64
-    ensures { Coded count_code result (PlanTotal n) }
+    ensures { Coded size_code result (PlanTotal n) }
 {
     let answer = tallying::plan_total(n);
     codes::count_code(answer)

@@ -1,2 +1,0 @@
--- Laws that the functions' proofs cite.
-pub mod Signed
