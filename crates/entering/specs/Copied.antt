@@ -1,28 +1,32 @@
--- Rooms copied into one array, number by number: of the room at place i, the left stands at i, the bottom at 255 + i, the right at 510 + i,
--- the top at 765 + i and the name at 1020 + i.
-use Rattle.std.specs.Prelude.{cond, List, ℕ, ◌+◌, ltb, get_or, set}
+-- Rooms copied into five arrays, one of each side's corners and one of the names, each room's at the room's place.
+use Rattle.std.specs.Prelude.{if◌then◌else◌, List, ℕ, nat_lt, get_or, set}
 use Rattle.finite.specs.Table.{table}
 use Rattle.drawing.specs.declared.Room.{Room}
+use Rattle.entering.specs.declared.CopiedRooms.{CopiedRooms}
 
 -- one room more, at place i
-abbrev pub stored : List ℕ → ℕ → Room → List ℕ
-stored numbers i room =
-    set (set (set (set (set numbers i room.left) (255 + i) room.bottom) (510 + i) room.right) (765 + i) room.top)
-    (1020 + i) room.name
-
--- where there is such a place
-abbrev pub put : List ℕ → ℕ → Room → List ℕ
-put numbers i room = cond (ltb i 255) (stored numbers i room) numbers
-
--- the room at place i, and the first n rooms
-abbrev pub copied_at : List ℕ → ℕ → Room
-copied_at numbers i = record {
-  left = get_or numbers i 0;
-  bottom = get_or numbers (255 + i) 0;
-  right = get_or numbers (510 + i) 0;
-  top = get_or numbers (765 + i) 0;
-  name = get_or numbers (1020 + i) 0;
+abbrev pub stored : CopiedRooms → ℕ → Room → CopiedRooms
+stored copied i room = record {
+  left = set copied.left i room.left;
+  bottom = set copied.bottom i room.bottom;
+  right = set copied.right i room.right;
+  top = set copied.top i room.top;
+  name = set copied.name i room.name;
 }
 
-abbrev pub copied_rooms : List ℕ → ℕ → List Room
-copied_rooms numbers n = table (copied_at numbers) n
+-- where there is such a place
+abbrev pub put : CopiedRooms → ℕ → Room → CopiedRooms
+put copied i room = if nat_lt i 255 then stored copied i room else copied
+
+-- the room at place i, and the first n rooms
+abbrev pub copied_at : CopiedRooms → ℕ → Room
+copied_at copied i = record {
+  left = get_or copied.left i 0;
+  bottom = get_or copied.bottom i 0;
+  right = get_or copied.right i 0;
+  top = get_or copied.top i 0;
+  name = get_or copied.name i 0;
+}
+
+abbrev pub copied_rooms : CopiedRooms → ℕ → List Room
+copied_rooms copied n = table (copied_at copied) n

@@ -1,38 +1,37 @@
 -- Demand 1 for room lists: "either its result or one of the numbered refusals, in the stated order". "A cause found gives its number, and
 -- no number comes without its cause."
-use Rattle.std.specs.Prelude.{List, ◌≡◌, ℕ, length}
+use Rattle.std.specs.Prelude.{List, ◌≡◌, ℕ, length, Result, Ok, Err}
 use Rattle.std.proofs.Math.Logic.{ite, if_pos, if_neg}
 use Rattle.std.proofs.Common.{sym, ◌∙◌}
 use Rattle.record.specs.Causes.{BadCount, dec_count}
+use Rattle.record.specs.declared.Refusal.{Refusal}
 use Rattle.record.specs.declared.Refusal.TheVariants as refusal
 use Rattle.drawing.specs.declared.Room.{Room}
 use Rattle.rooms.specs.LabelList.{record_of_rooms}
 use Rattle.rooms.specs.Causes.{RoomSize, Overlap, Uncovered, FourMeet, NameTwice, AcceptedRooms}
 use Rattle.rooms.specs.DecideCauses.{dec_room_size, dec_overlap, dec_uncovered, dec_four_meet, dec_name_twice}
 use Rattle.entering.specs.Answer.{Short, dec_short, rooms_answer}
-use Rattle.entering.specs.declared.RoomsAnswer.{RoomsAnswer}
-use Rattle.entering.specs.declared.RoomsAnswer.TheVariants.{Wrote, Refused}
 
 -- an answer with its cause, and without the causes that the order names before it
-pub data RoomsSays (rooms : List Room) (bytes labels positions names : ℕ) : RoomsAnswer → Type 0 where
-  count : BadCount (length rooms) → RoomsSays rooms bytes labels positions names (Refused refusal.Count)
-  size : ¬ BadCount (length rooms) → RoomSize rooms → RoomsSays rooms bytes labels positions names (Refused refusal.RoomSize)
+pub data RoomsSays (rooms : List Room) (bytes labels positions names : ℕ) : Result ℕ Refusal → Type 0 where
+  count : BadCount (length rooms) → RoomsSays rooms bytes labels positions names (Err refusal.Count)
+  size : ¬ BadCount (length rooms) → RoomSize rooms → RoomsSays rooms bytes labels positions names (Err refusal.RoomSize)
   overlap : ¬ BadCount (length rooms) → ¬ RoomSize rooms → Overlap rooms
-      → RoomsSays rooms bytes labels positions names (Refused refusal.Overlap)
+      → RoomsSays rooms bytes labels positions names (Err refusal.Overlap)
   uncovered : ¬ BadCount (length rooms) → ¬ RoomSize rooms → ¬ Overlap rooms → Uncovered rooms
-      → RoomsSays rooms bytes labels positions names (Refused refusal.Uncovered)
+      → RoomsSays rooms bytes labels positions names (Err refusal.Uncovered)
   four_meet : ¬ BadCount (length rooms) → ¬ RoomSize rooms → ¬ Overlap rooms → ¬ Uncovered rooms → FourMeet rooms
-      → RoomsSays rooms bytes labels positions names (Refused refusal.FourMeet)
+      → RoomsSays rooms bytes labels positions names (Err refusal.FourMeet)
   name_twice : ¬ BadCount (length rooms) → ¬ RoomSize rooms → ¬ Overlap rooms → ¬ Uncovered rooms → ¬ FourMeet rooms → NameTwice rooms
-      → RoomsSays rooms bytes labels positions names (Refused refusal.NameTwice)
+      → RoomsSays rooms bytes labels positions names (Err refusal.NameTwice)
   short : AcceptedRooms rooms → Short rooms bytes labels positions names
-      → RoomsSays rooms bytes labels positions names (Refused refusal.ShortOutput)
+      → RoomsSays rooms bytes labels positions names (Err refusal.ShortOutput)
   wrote : AcceptedRooms rooms → ¬ Short rooms bytes labels positions names
-      → RoomsSays rooms bytes labels positions names (Wrote (length (record_of_rooms rooms)))
+      → RoomsSays rooms bytes labels positions names (Ok (length (record_of_rooms rooms)))
 
 module _ (rooms : List Room) (capacity labels positions names : ℕ) where
-  abbrev after_causes : RoomsAnswer
-  after_causes = ite (dec_short rooms capacity labels positions names) (Refused refusal.ShortOutput) (Wrote (length (record_of_rooms rooms)))
+  abbrev after_causes : Result ℕ Refusal
+  after_causes = ite (dec_short rooms capacity labels positions names) (Err refusal.ShortOutput) (Ok (length (record_of_rooms rooms)))
 
   -- each answer has its cause
   pub demand1_rooms_cause : RoomsSays rooms capacity labels positions names (rooms_answer rooms capacity labels positions names)
@@ -42,14 +41,14 @@ module _ (rooms : List Room) (capacity labels positions names : ℕ) where
       go : (a : Dec (BadCount (length rooms))) (b : Dec (RoomSize rooms)) (c : Dec (Overlap rooms)) (d : Dec (Uncovered rooms))
           (e : Dec (FourMeet rooms)) (t : Dec (NameTwice rooms)) (f : Dec (Short rooms capacity labels positions names))
           → RoomsSays rooms capacity labels positions names
-          (ite a (Refused refusal.Count)
-          (ite b (Refused refusal.RoomSize)
-          (ite c (Refused refusal.Overlap)
-          (ite d (Refused refusal.Uncovered)
-          (ite e (Refused refusal.FourMeet)
-          (ite t (Refused refusal.NameTwice)
-          (ite f (Refused refusal.ShortOutput)
-          (Wrote (length (record_of_rooms rooms))))))))))
+          (ite a (Err refusal.Count)
+          (ite b (Err refusal.RoomSize)
+          (ite c (Err refusal.Overlap)
+          (ite d (Err refusal.Uncovered)
+          (ite e (Err refusal.FourMeet)
+          (ite t (Err refusal.NameTwice)
+          (ite f (Err refusal.ShortOutput)
+          (Ok (length (record_of_rooms rooms))))))))))
       go (yes a) b c d e t f = count a
       go (no a) (yes b) c d e t f = size a b
       go (no a) (no b) (yes c) d e t f = overlap a b c
@@ -69,7 +68,7 @@ module _ (rooms : List Room) (capacity labels positions names : ℕ) where
       ∙ if_neg (dec_four_meet rooms) k.four_meet _ _ ∙ if_neg (dec_name_twice rooms) k.names _ _
 
   -- and an answer with its cause is the answer
-  pub demand1_rooms_answer : {answer : RoomsAnswer} → RoomsSays rooms capacity labels positions names answer
+  pub demand1_rooms_answer : {answer : Result ℕ Refusal} → RoomsSays rooms capacity labels positions names answer
       → answer ≡ rooms_answer rooms capacity labels positions names
   demand1_rooms_answer (count a) = sym (if_pos (dec_count (length rooms)) a _ _)
   demand1_rooms_answer (size a b) = sym (if_neg (dec_count (length rooms)) a _ _ ∙ if_pos (dec_room_size rooms) b _ _)

@@ -1,10 +1,11 @@
 -- M-106, names on rooms, of what Rooms in answers and leaves: "Reading a room list returns the name at each position. The record holds no
 -- names". Two lists that differ in names alone get the same record, labels and positions unless 20 refuses one of them.
-use Rattle.std.specs.Prelude.{List, ◌++◌, ◌⊎◌, ◌≢◌, ◌≡◌, refl, ℕ, suc, ◌-◌, ◌<◌, length, drop}
+use Rattle.std.specs.Prelude.{List, ◌++◌, ◌⊎◌, ◌≢◌, ◌≡◌, refl, ℕ, suc, ◌-◌, ◌<◌, length, drop, Result, Ok, Err}
 use Rattle.std.proofs.Common.{sym, ap, subst, subst₂, ◌∙◌, arith}
 use Rattle.finite.specs.Table.{table, table_same, get_d_table}
 use Rattle.record.specs.Causes.{BadCount}
 use Rattle.record.specs.Labels.{label_at}
+use Rattle.record.specs.declared.Refusal.{Refusal}
 use Rattle.record.specs.declared.Refusal.TheVariants as refusal
 use Rattle.drawing.specs.declared.Room.{Room}
 use Rattle.rooms.specs.Outline.{room_in}
@@ -17,8 +18,6 @@ use Rattle.rooms.specs.SameButNames.{SameButNames, same_but_names_sym, same_room
 use Rattle.rooms.proofs.M106.{m106_same_label, m106_same_position, m106_same_record}
 use Rattle.entering.specs.Answer.{Short, rooms_answer, labels_of_rooms, positions_of_rooms, names_of_rooms, written, Slices, RoomsIn}
 use Rattle.entering.specs.Demand1.{RoomsSays, count, size, overlap, uncovered, four_meet, name_twice, short, wrote, demand1_rooms_cause, demand1_rooms_answer}
-use Rattle.entering.specs.declared.RoomsAnswer.{RoomsAnswer}
-use Rattle.entering.specs.declared.RoomsAnswer.TheVariants.{Wrote, Refused}
 
 -- ---- "the name at each position"
 -- at the position of each room stands its name
@@ -34,7 +33,7 @@ m106_name_at_its_position rooms accepted i h =
 
 -- ---- lists that differ in names alone
 module _ (rooms others : List Room) (same : SameButNames rooms others) (bytes labels positions names : ℕ)
-    (others_not_20 : rooms_answer others bytes labels positions names ≢ Refused refusal.NameTwice) where
+    (others_not_20 : rooms_answer others bytes labels positions names ≢ Err refusal.NameTwice) where
   back : SameButNames others rooms
   back = same_but_names_sym same
 
@@ -58,7 +57,7 @@ module _ (rooms others : List Room) (same : SameButNames rooms others) (bytes la
   short_back k = subst₂ TooShort (ap length (sym (record_same k))) back.count
 
   -- an answer other than 20 that is right for the one list is right for the other
-  says_same : {answer : RoomsAnswer} → RoomsSays rooms bytes labels positions names answer → answer ≢ Refused refusal.NameTwice
+  says_same : {answer : Result ℕ Refusal} → RoomsSays rooms bytes labels positions names answer → answer ≢ Err refusal.NameTwice
       → RoomsSays others bytes labels positions names answer
   says_same (count a) not-20 = count (subst BadCount same.count a)
   says_same (size a b) not-20 = size (λ c. a (subst BadCount back.count c)) (same_room_size same b)
@@ -73,11 +72,11 @@ module _ (rooms others : List Room) (same : SameButNames rooms others) (bytes la
   says_same (name_twice a b c d e t) not-20 = absurd (not-20 refl)
   says_same (short k s) not-20 = short (also_accepted k) (short_same k s)
   says_same (wrote k s) not-20 =
-      subst (λ (result : List ℕ). RoomsSays others bytes labels positions names (Wrote (length result))) (sym (record_same k))
+      subst (λ (result : List ℕ). RoomsSays others bytes labels positions names (Ok (length result))) (sym (record_same k))
       (wrote (also_accepted k) (λ short. s (short_back k short)))
 
   -- and what is written is the same where it is the same for accepted lists
-  written_same : {answer : RoomsAnswer} → RoomsSays rooms bytes labels positions names answer → (result other before : List ℕ)
+  written_same : {answer : Result ℕ Refusal} → RoomsSays rooms bytes labels positions names answer → (result other before : List ℕ)
       → (AcceptedRooms rooms → result ≡ other) → written answer result before ≡ written answer other before
   written_same (count a) result other before e = refl
   written_same (size a b) result other before e = refl
@@ -90,9 +89,9 @@ module _ (rooms others : List Room) (same : SameButNames rooms others) (bytes la
 
 -- they "get the same record, labels and positions unless 20 refuses one of them", and the same answer
 pub m106_same_outcome : (rooms others : List Room) → SameButNames rooms others
-    → (before after other_After : Slices) (answer other : RoomsAnswer)
+    → (before after other_After : Slices) (answer other : Result ℕ Refusal)
     → RoomsIn rooms before answer after → RoomsIn others before other other_After
-    → answer ≢ Refused refusal.NameTwice → other ≢ Refused refusal.NameTwice
+    → answer ≢ Err refusal.NameTwice → other ≢ Err refusal.NameTwice
     → (answer ≡ other) × (after.bytes ≡ other_After.bytes) × (after.labels ≡ other_After.labels)
     × (after.positions ≡ other_After.positions)
 m106_same_outcome rooms others same before after other_After answer other did other-did not-20 other-not-20 = (
@@ -121,10 +120,10 @@ m106_same_outcome rooms others same before after other_After answer other did ot
     said : RoomsSays rooms b l p n (rooms_answer rooms b l p n)
     said = demand1_rooms_cause rooms b l p n
 
-    one_not_20 : rooms_answer rooms b l p n ≢ Refused refusal.NameTwice
+    one_not_20 : rooms_answer rooms b l p n ≢ Err refusal.NameTwice
     one_not_20 e = not-20 (did.answered ∙ e)
 
-    others_not_20 : rooms_answer others b l p n ≢ Refused refusal.NameTwice
+    others_not_20 : rooms_answer others b l p n ≢ Err refusal.NameTwice
     others_not_20 e = other-not-20 (other-did.answered ∙ e)
 
     also : AcceptedRooms rooms → AcceptedRooms others
@@ -138,9 +137,9 @@ m106_same_outcome rooms others same before after other_After answer other did ot
     same_written : (result other_result held : List ℕ) → (AcceptedRooms rooms → result ≡ other_result)
         → written answer result held ≡ written other other_result held
     same_written result other_result held e =
-        ap (λ (a : RoomsAnswer). written a result held) did.answered
+        ap (λ (a : Result ℕ Refusal). written a result held) did.answered
         ∙ written_same rooms others same b l p n others_not_20 said result other_result held e
-        ∙ ap (λ (a : RoomsAnswer). written a other_result held) (sym did.answered ∙ answers)
+        ∙ ap (λ (a : Result ℕ Refusal). written a other_result held) (sym did.answered ∙ answers)
 
     by_room : (f g : ℕ → ℕ) → ((i : ℕ) → i < length rooms → f i ≡ g i) → table f (length rooms) ≡ table g (length others)
     by_room f g e = table_same f g (length rooms) e ∙ ap (table g) same.count

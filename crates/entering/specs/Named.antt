@@ -8,6 +8,7 @@ use Rattle.finite.specs.Table.{table, table_same, length_table, get_d_table}
 use Rattle.drawing.specs.declared.Room.{Room}
 use Rattle.rooms.specs.Outline.{room_in}
 use Rattle.rooms.specs.Causes.{NameTwice, AcceptedRooms}
+use Rattle.rooms.specs.declared.CornerLists.{CornerLists}
 use Rattle.rooms.specs.Corners.{length_rooms, room_of_lem}
 use Rattle.rooms.specs.LabelList.{label_of, position_of}
 use Rattle.rooms.specs.SameButNames.{SameCorners, SameButNames, same_accepted}
@@ -27,6 +28,10 @@ named_at lefts bottoms rights tops names i = record {
 
 abbrev pub named_rooms : (lefts bottoms rights tops names : List ℕ) → List Room
 named_rooms lefts bottoms rights tops names = table (named_at lefts bottoms rights tops names) (length lefts)
+
+-- the rooms whose corners and names the code has in five lists
+abbrev pub named_in : (lists : CornerLists) (names : List ℕ) → List Room
+named_in lists names = named_rooms lists.left.now lists.bottom.now lists.right.now lists.top.now names
 
 module _ (lefts bottoms rights tops names : List ℕ) where
   abbrev n : ℕ

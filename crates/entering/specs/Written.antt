@@ -1,6 +1,6 @@
 -- What a refusal leaves, and what is written for an accepted room list once the four slices are long enough: its label list is Baxter, so
 -- Labels in writes its record, and nothing else can come back.
-use Rattle.std.specs.Prelude.{List, ◌++◌, ◌≡◌, refl, ℕ, suc, ◌+◌, ◌*◌, ◌/◌, ◌≤◌, ◌<◌, length, get_or, drop}
+use Rattle.std.specs.Prelude.{List, ◌++◌, ◌≡◌, refl, ℕ, suc, ◌+◌, ◌*◌, ◌/◌, ◌≤◌, ◌<◌, length, get_or, drop, Result, Ok, Err}
 use Rattle.std.proofs.Common.{inl, inr, sym, ap, ◌∙◌, arith}
 use Rattle.std.proofs.Math.ListN.{get_or-append}
 use Rattle.finite.specs.Decide.{le_or_lt}
@@ -10,8 +10,6 @@ use Rattle.record.specs.Record.{record_of}
 use Rattle.record.specs.Answer.{labels_answer, record_after}
 use Rattle.record.proofs.Demand2.{record_length, demand2_accepts_baxter}
 use Rattle.record.specs.declared.Refusal.{Refusal}
-use Rattle.record.specs.declared.LabelsAnswer.{LabelsAnswer}
-use Rattle.record.specs.declared.LabelsAnswer.TheVariants as labels_in
 use Rattle.drawing.specs.declared.Room.{Room}
 use Rattle.rooms.specs.Causes.{AcceptedRooms}
 use Rattle.rooms.specs.Outline.{room_in}
@@ -22,14 +20,12 @@ use Rattle.rooms.proofs.Demand3.{BaxterOf, rooms_give_baxter}
 use Rattle.orders.specs.InOrder.{ByPosition, Numbered, LabelsInOrder}
 use Rattle.entering.specs.Answer.{names_of_rooms, Short, Slices, slices, RoomsIn}
 use Rattle.entering.specs.Demand1.{RoomsSays, wrote, demand1_rooms_answer}
-use Rattle.entering.specs.declared.RoomsAnswer.{RoomsAnswer}
-use Rattle.entering.specs.declared.RoomsAnswer.TheVariants.{Wrote, Refused}
 
 -- a refusal with its cause leaves the slices as they were
 pub refused : {rooms : List Room} {refusal : Refusal} (before : Slices)
     → RoomsSays rooms (length before.bytes) (length before.labels) (length before.positions) (length before.names)
-    (Refused refusal)
-    → RoomsIn rooms before (Refused refusal) before
+    (Err refusal)
+    → RoomsIn rooms before (Err refusal) before
 refused {rooms} before says = record {
   answered = demand1_rooms_answer rooms _ _ _ _ says;
   record_is = refl;
@@ -37,11 +33,6 @@ refused {rooms} before says = record {
   positions_are = refl;
   names_are = refl;
 }
-
--- the answer of Labels in as that of Rooms in
-abbrev pub for_rooms : LabelsAnswer → RoomsAnswer
-for_rooms (labels_in.Wrote size) = Wrote size
-for_rooms (labels_in.Refused refusal) = Refused refusal
 
 record_is : (rooms : List Room) → record_of (label_list rooms) ≡ record_of_rooms rooms
 unfolding record_of_rooms
@@ -97,9 +88,9 @@ module _ (rooms : List Room) (accepted : AcceptedRooms rooms) where
 
   module _ (before : Slices)
       (long : ¬ Short rooms (length before.bytes) (length before.labels) (length before.positions) (length before.names)) where
-    answer_is : labels_answer (label_list rooms) (length before.bytes) ≡ labels_in.Wrote (length (record_of_rooms rooms))
+    answer_is : labels_answer (label_list rooms) (length before.bytes) ≡ Ok (length (record_of_rooms rooms))
     answer_is = (demand2_accepts_baxter (label_list rooms) (length before.bytes) enough).1 (b.baxter, some.0, some.1)
-        ∙ ap (λ (bytes : List ℕ). labels_in.Wrote (length bytes)) (record_is rooms)
+        ∙ ap (λ (bytes : List ℕ). Ok (length bytes)) (record_is rooms)
       where
         enough : length (record_of (label_list rooms)) ≤ length before.bytes
         enough = elim (le_or_lt (length (record_of (label_list rooms))) (length before.bytes)) [
@@ -111,12 +102,12 @@ module _ (rooms : List Room) (accepted : AcceptedRooms rooms) where
         some = omega (arith, b.size, b.some, b.few)
 
     -- what is left where the labels, the positions, the names and what Labels in leaves for the label list are
-    pub written_for : (n : ℕ) (answer : LabelsAnswer) {list bytes by labels positions names : List ℕ}
+    pub written_for : (n : ℕ) (answer : Result ℕ Refusal) {list bytes by labels positions names : List ℕ}
         → n ≡ length rooms → list ≡ label_list rooms
         → answer ≡ labels_answer list (length before.bytes) → bytes ≡ record_after answer list before.bytes
         → Numbered rooms n by before.labels labels before.positions positions
         → (name : ℕ → ℕ) → ((k : ℕ) → k < n → name k ≡ (room_in rooms (get_or by k 0)).name) → names ≡ filled name n before.names
-        → RoomsIn rooms before (for_rooms answer) (slices bytes labels positions names)
+        → RoomsIn rooms before answer (slices bytes labels positions names)
     written_for n answer {by = by} many listed is left g name are named = rw told (record {
       answered = demand1_rooms_answer rooms _ _ _ _ (wrote accepted long);
       record_is = left ∙ (λ i. record_after (told i) (listed i) before.bytes)
@@ -126,5 +117,5 @@ module _ (rooms : List Room) (accepted : AcceptedRooms rooms) where
       names_are = named ∙ names_front n by before.names name g.by_position many are;
     })
       where
-        told : answer ≡ labels_in.Wrote (length (record_of_rooms rooms))
+        told : answer ≡ Ok (length (record_of_rooms rooms))
         told = is ∙ ap (λ (list : List ℕ). labels_answer list (length before.bytes)) listed ∙ answer_is

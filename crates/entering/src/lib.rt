@@ -3,21 +3,49 @@
 #![tactic(auto)]
 
 ghost use Rattle.std.specs.Prelude.{◌≡◌, ◌+◌, ◌*◌, ◌≤◌, length, get_or};
-ghost use Rattle.points.specs.Paired.{Unpaired};
+ghost use Rattle.rooms.specs.Lists.{count_of};
 ghost use Rattle.naming.specs.Twice.{Twice};
 ghost use Rattle.orders.specs.PairedPlan.{PairedPlan};
 ghost use Rattle.entering.specs.Answer.{slices, RoomsIn};
-ghost use Rattle.entering.specs.Copied.{copied_rooms};
-ghost use Rattle.entering.specs.Named.{named_rooms};
+ghost use Rattle.entering.specs.Copied.{put, copied_rooms};
+ghost use Rattle.entering.specs.Named.{named_in};
 
-use checks::Verdict;
-use record::{LabelsAnswer, Refusal};
+use drawing::Room;
+use record::Refusal;
+use rooms::CornerLists;
 
-// What Rooms in answers: the record's length, or why not.
+// The numbers of up to 255 rooms that were copied, each at its room's place.
 #[derive(Clone, Copy)]
-pub enum RoomsAnswer {
-    Wrote(usize),
-    Refused(Refusal),
+pub struct CopiedRooms {
+    pub left: [u16; 255],
+    pub bottom: [u16; 255],
+    pub right: [u16; 255],
+    pub top: [u16; 255],
+    pub name: [u16; 255],
+}
+
+impl CopiedRooms {
+    // No room yet: 0 everywhere.
+    pub const NONE: CopiedRooms = CopiedRooms {
+        left: [0; 255],
+        bottom: [0; 255],
+        right: [0; 255],
+        top: [0; 255],
+        name: [0; 255],
+    };
+
+    // Copies a room to place i. At 255 and beyond nothing is done.
+    pub fn put(&mut self, i: usize, room: Room)
+        ensures { self.new ≡ put self.old i room }
+    {
+        if i < 255 {
+            self.left[i] = room.left;
+            self.bottom[i] = room.bottom;
+            self.right[i] = room.right;
+            self.top[i] = room.top;
+            self.name[i] = room.name;
+        }
+    }
 }
 
 // The record of an accepted room list, whose corners are paired, the label and the position of each room, and the names by position; or 15,
@@ -25,10 +53,7 @@ pub enum RoomsAnswer {
 // Baxter: so labels, positions and names are put where they belong at once, and Labels in writes the record. `by` is for the rooms by
 // position, and `list` for the rooms by label and then for the label list.
 fn write(
-    left: &[u16],
-    bottom: &[u16],
-    right: &[u16],
-    top: &[u16],
+    lists: &CornerLists,
     name: &[u16],
     there: &[u16],
     back: &[u16],
@@ -38,79 +63,61 @@ fn write(
     labels: &mut [u8],
     positions: &mut [u8],
     names: &mut [u16],
-) -> RoomsAnswer
-    requires paired_plan { PairedPlan left.now bottom.now right.now top.now there.now back.now }
-    requires name_len { (length name.now ≡ length left.now) × (¬ Twice (λ i. get_or name.now i 0) (length name.now)) }
-    requires left_in_bounds { (length left.now ≤ length by.old) × (length left.now ≤ length list.old) }
-    ensures { RoomsIn
-        (named_rooms left.now bottom.now right.now top.now name.now)
+) -> Result<usize, Refusal>
+    requires paired_plan { PairedPlan lists.now there.now back.now }
+    requires all_named { length name.now ≡ count_of lists.now }
+    requires no_name_twice { ¬ Twice (λ i. get_or name.now i 0) (length name.now) }
+    requires places { (count_of lists.now ≤ length by.old) × (count_of lists.now ≤ length list.old) }
+    ensures { RoomsIn (named_in lists.now name.now)
         (slices «record».old labels.old positions.old names.old) result
         (slices «record».new labels.new positions.new names.new) }
 {
-    let n = left.len();
+    let n = lists.len();
     if record.len() < 1 + (3 * n + 4) / 8 {
-        return RoomsAnswer::Refused(Refusal::ShortOutput);
+        return Err(Refusal::ShortOutput);
     }
-    if labels.len() < n {
-        return RoomsAnswer::Refused(Refusal::ShortOutput);
+    if labels.len() < n || positions.len() < n || names.len() < n {
+        return Err(Refusal::ShortOutput);
     }
-    if positions.len() < n {
-        return RoomsAnswer::Refused(Refusal::ShortOutput);
-    }
-    if names.len() < n {
-        return RoomsAnswer::Refused(Refusal::ShortOutput);
-    }
-    orders::labels_and_positions(
-        left, bottom, right, top, there, back, by, list, labels, positions,
-    );
+    orders::labels_and_positions(lists, there, back, by, list, labels, positions);
     naming::by_position(name, by, n, names);
     orders::label_list(labels, by, n, list);
-    match labels::labels_in(&list[..n], record) {
-        LabelsAnswer::Wrote(size) => RoomsAnswer::Wrote(size),
-        LabelsAnswer::Refused(refusal) => RoomsAnswer::Refused(refusal),
-    }
+    labels::labels_in(&list[..n], record)
 }
 
-// Rooms in, on 1 to 255 rooms that were copied, with arrays for the pairs of corners and for `write`: the causes in their order, and then
-// the record, the labels, the positions and the names.
-pub fn decide(
-    numbers: &[u16; 1275],
+// Rooms in, on 1 to 255 rooms that were copied, with arrays for so many rooms and for the pairs of so many corners: the causes in their
+// order, and then the record, the labels, the positions and the names.
+pub fn decide<const ROOMS: usize, const CORNERS: usize>(
+    copied: &CopiedRooms,
     n: usize,
-    there: &mut [u16],
-    back: &mut [u16],
-    by: &mut [u8],
-    list: &mut [u8],
     record: &mut [u8],
     labels: &mut [u8],
     positions: &mut [u8],
     names: &mut [u16],
-) -> RoomsAnswer
-    requires numbers_len { (length numbers.now ≡ 1275) × (1 ≤ n) × (n ≤ 255) }
-    requires unpaired { Unpaired (2 * n + 2) there.old back.old }
-    requires n_in_bounds { (n ≤ length by.old) × (n ≤ length list.old) }
-    ensures { RoomsIn (copied_rooms numbers.now n)
+) -> Result<usize, Refusal>
+    requires one_to_255 { (1 ≤ n) × (n ≤ 255) }
+    requires rooms { (n ≤ ROOMS) × (ROOMS ≤ 255) }
+    requires corners { (2 * n + 2 ≤ CORNERS) × (CORNERS ≤ 512) }
+    ensures { RoomsIn (copied_rooms copied.now n)
         (slices «record».old labels.old positions.old names.old) result
         (slices «record».new labels.new positions.new names.new) }
 {
-    let all = &numbers[..];
-    let left = &all[..n];
-    let bottom = &all[255..255 + n];
-    let right = &all[510..510 + n];
-    let top = &all[765..765 + n];
-    let name = &all[1020..1020 + n];
-    match checks::judge(left, bottom, right, top, there, back) {
-        Verdict::RoomSize => RoomsAnswer::Refused(Refusal::RoomSize),
-        Verdict::Overlap => RoomsAnswer::Refused(Refusal::Overlap),
-        Verdict::Uncovered => RoomsAnswer::Refused(Refusal::Uncovered),
-        Verdict::FourMeet => RoomsAnswer::Refused(Refusal::FourMeet),
-        Verdict::Accepted => {
-            if naming::twice(name) {
-                return RoomsAnswer::Refused(Refusal::NameTwice);
-            }
-            write(
-                left, bottom, right, top, name, there, back, by, list, record, labels, positions,
-                names,
-            )
-        }
+    let lists = CornerLists {
+        left: &copied.left[..n],
+        bottom: &copied.bottom[..n],
+        right: &copied.right[..n],
+        top: &copied.top[..n],
+    };
+    let name = &copied.name[..n];
+    let mut there = [0u16; CORNERS];
+    let mut back = [512u16; CORNERS];
+    checks::judge(&lists, &mut there, &mut back)?;
+    if naming::twice(name) {
+        return Err(Refusal::NameTwice);
     }
+    let mut by = [0u8; ROOMS];
+    let mut list = [0u8; ROOMS];
+    write(
+        &lists, name, &there, &back, &mut by, &mut list, record, labels, positions, names,
+    )
 }

@@ -2,7 +2,7 @@
 -- slices, get the same record, byte for byte, exactly when the two floorplans are equivalent. The reading of any bytes at all, handed in
 -- as a record with long enough output slices, is accepted exactly when they are the record of some accepted room list; any other bytes
 -- are refused whatever the slices."
-use Rattle.std.specs.Prelude.{List, ◌++◌, ◌↔◌, ◌⊎◌, ◌≡◌, refl, ℕ, ◌<◌, length, take, drop}
+use Rattle.std.specs.Prelude.{List, ◌++◌, ◌↔◌, ◌⊎◌, ◌≡◌, refl, ℕ, ◌<◌, length, take, drop, Result, Ok, Err}
 use Rattle.std.proofs.Common.{inl, inr, sym, ap, subst, ◌∙◌, arith}
 use Rattle.std.proofs.Math.Seq.{take-append_seam}
 use Rattle.bits.specs.Bit.{Bytes}
@@ -21,15 +21,13 @@ use Rattle.answers.specs.declared.RecordAnswer.{RecordAnswer}
 use Rattle.answers.specs.declared.RecordAnswer.TheVariants as recordIn
 use Rattle.entering.specs.Answer.{Short, rooms_answer, Slices, RoomsIn}
 use Rattle.entering.specs.Demand1.{RoomsSays, count, size, overlap, uncovered, four_meet, name_twice, short, wrote, demand1_rooms_cause, demand1_rooms_answer}
-use Rattle.entering.specs.declared.RoomsAnswer.{RoomsAnswer}
-use Rattle.entering.specs.declared.RoomsAnswer.TheVariants.{Wrote, Refused}
 
 -- ---- what an answer that is no refusal says
-abbrev Accepts : List Room → RoomsAnswer → Type 0
-Accepts rooms (Wrote n) = AcceptedRooms rooms × (n ≡ length (record_of_rooms rooms))
-Accepts rooms (Refused refusal) = Unit
+abbrev Accepts : List Room → Result ℕ Refusal → Type 0
+Accepts rooms (Ok n) = AcceptedRooms rooms × (n ≡ length (record_of_rooms rooms))
+Accepts rooms (Err refusal) = Unit
 
-says_accepts : (rooms : List Room) {capacity labels positions names : ℕ} {answer : RoomsAnswer}
+says_accepts : (rooms : List Room) {capacity labels positions names : ℕ} {answer : Result ℕ Refusal}
     → RoomsSays rooms capacity labels positions names answer
     → Accepts rooms answer
 says_accepts rooms (count a) = tt
@@ -41,7 +39,7 @@ says_accepts rooms (name_twice a b c d e t) = tt
 says_accepts rooms (short k s) = tt
 says_accepts rooms (wrote k s) = (k, refl)
 
-wrote_accepts : (rooms : List Room) (capacity labels positions names n : ℕ) → rooms_answer rooms capacity labels positions names ≡ Wrote n
+wrote_accepts : (rooms : List Room) (capacity labels positions names n : ℕ) → rooms_answer rooms capacity labels positions names ≡ Ok n
     → AcceptedRooms rooms × (n ≡ length (record_of_rooms rooms))
 wrote_accepts rooms capacity labels positions names n e =
     subst (Accepts rooms) e (says_accepts rooms (demand1_rooms_cause rooms capacity labels positions names))
@@ -51,7 +49,7 @@ wrote_accepts rooms capacity labels positions names n e =
 abbrev pub bytes_left : (n : ℕ) → (after : Slices) → List ℕ
 bytes_left n after = take n after.bytes
 
-module _ {rooms : List Room} {before after : Slices} {n : ℕ} (did : RoomsIn rooms before (Wrote n) after) where
+module _ {rooms : List Room} {before after : Slices} {n : ℕ} (did : RoomsIn rooms before (Ok n) after) where
   accepts : AcceptedRooms rooms × (n ≡ length (record_of_rooms rooms))
   accepts = wrote_accepts rooms (length before.bytes) (length before.labels) (length before.positions) (length before.names) n
       (sym did.answered)
@@ -64,7 +62,7 @@ module _ {rooms : List Room} {before after : Slices} {n : ℕ} (did : RoomsIn ro
 
 -- "get the same record, byte for byte, exactly when the two floorplans are equivalent"
 pub demand3_same_bytes_iff_equivalent : (rooms others : List Room) (before after other-before other_After : Slices) (n m : ℕ)
-    → RoomsIn rooms before (Wrote n) after → RoomsIn others other-before (Wrote m) other_After
+    → RoomsIn rooms before (Ok n) after → RoomsIn others other-before (Ok m) other_After
     → (bytes_left n after ≡ bytes_left m other_After) ↔ Equivalent rooms others
 demand3_same_bytes_iff_equivalent rooms others before after other-before other_After n m did other =
     let (to, from) = demand3_same_record_iff_equivalent rooms others (accepts did).0 (accepts other).0 in (
@@ -78,7 +76,7 @@ pub record WrittenFor (bytes : List ℕ) : Type 0 where
   pub rooms : List Room
   pub sixteen_bits : SixteenBits rooms
   pub answered : (capacity labels positions names : ℕ) → ¬ Short rooms capacity labels positions names
-      → rooms_answer rooms capacity labels positions names ≡ Wrote (length bytes)
+      → rooms_answer rooms capacity labels positions names ≡ Ok (length bytes)
   pub bytes_are : record_of_rooms rooms ≡ bytes
 
 readable→written : (bytes : List ℕ) → Bytes bytes → Readable bytes → WrittenFor bytes
@@ -89,7 +87,7 @@ readable→written bytes all readable =
       sixteen_bits = sixteen;
       answered = λ capacity labels positions names long.
           sym (demand1_rooms_answer rooms capacity labels positions names (wrote accepted long))
-          ∙ ap (λ (r : List ℕ). Wrote (length r)) e;
+          ∙ ap (λ (r : List ℕ). Ok (length r)) e;
       bytes_are = e;
     }
 

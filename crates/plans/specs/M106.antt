@@ -1,11 +1,12 @@
 -- M-106 of both calls: the rooms that Record in gives, handed in to Rooms in as they are, give the record back.
-use Rattle.std.specs.Prelude.{List, ◌++◌, ◌≡◌, refl, ℕ, length, take, drop}
+use Rattle.std.specs.Prelude.{List, ◌++◌, ◌≡◌, refl, ℕ, length, take, drop, Result, Ok, Err}
 use Rattle.std.proofs.Common.{sym, ap, subst, ◌∙◌}
 use Rattle.std.proofs.Math.Seq.{take-append_seam}
 use Rattle.bits.specs.Bit.{Bytes}
 use Rattle.record.specs.Read.{kind_of, labels_of}
 use Rattle.record.specs.Checked.{Readable}
 use Rattle.record.proofs.Demand2Read.{demand2_read_only_list}
+use Rattle.record.specs.declared.Refusal.{Refusal}
 use Rattle.drawing.specs.declared.Room.{Room}
 use Rattle.drawing.specs.Drawing.{drawing_of}
 use Rattle.rooms.specs.Causes.{AcceptedRooms}
@@ -18,8 +19,6 @@ use Rattle.answers.specs.declared.RecordAnswer.{RecordAnswer}
 use Rattle.answers.specs.declared.RecordAnswer.TheVariants as recordIn
 use Rattle.entering.specs.Answer.{Short, Slices, RoomsIn}
 use Rattle.entering.specs.Demand1.{wrote, demand1_rooms_answer}
-use Rattle.entering.specs.declared.RoomsAnswer.{RoomsAnswer}
-use Rattle.entering.specs.declared.RoomsAnswer.TheVariants.{Wrote}
 use Rattle.plans.specs.Demand3.{bytes_left, bytes_are_record}
 
 -- what a reading that is no refusal says of the bytes
@@ -47,11 +46,11 @@ module _ {bytes : List ℕ} (all : Bytes bytes) {before after : answers.Slices} 
       ap (take n) did.rooms_are ∙ ap (λ (m : ℕ). take m (drawing ++ drop n before.rooms)) size ∙ take-append_seam drawing _
 
   -- "so that a drawing can be handed straight back"
-  pub m106_drawing_comes_back : (sent left : Slices) (answer : RoomsAnswer) → RoomsIn (take n after.rooms) sent answer left
+  pub m106_drawing_comes_back : (sent left : Slices) (answer : Result ℕ Refusal) → RoomsIn (take n after.rooms) sent answer left
       → ¬ Short (take n after.rooms) (length sent.bytes) (length sent.labels) (length sent.positions) (length sent.names)
-      → (answer ≡ Wrote (length bytes)) × (bytes_left (length bytes) left ≡ bytes)
+      → (answer ≡ Ok (length bytes)) × (bytes_left (length bytes) left ≡ bytes)
   m106_drawing_comes_back sent left answer handed long =
-      (is, bytes_are_record (subst (λ (a : RoomsAnswer). RoomsIn rooms sent a left) is handed) ∙ back)
+      (is, bytes_are_record (subst (λ (a : Result ℕ Refusal). RoomsIn rooms sent a left) is handed) ∙ back)
     where
       rooms : List Room
       rooms = take n after.rooms
@@ -62,7 +61,7 @@ module _ {bytes : List ℕ} (all : Bytes bytes) {before after : answers.Slices} 
       back : record_of_rooms rooms ≡ bytes
       back = ap record_of_rooms front ∙ drawn.1
 
-      is : answer ≡ Wrote (length bytes)
+      is : answer ≡ Ok (length bytes)
       is = handed.answered
           ∙ sym (demand1_rooms_answer rooms _ _ _ _ (wrote (subst AcceptedRooms (sym front) drawn.0) long))
-          ∙ ap (λ (r : List ℕ). Wrote (length r)) back
+          ∙ ap (λ (r : List ℕ). Ok (length r)) back
