@@ -17,8 +17,6 @@ use Rattle.rooms.specs.Equivalent.{Equivalent}
 use Rattle.rooms.proofs.Demand3.{demand3_same_record_iff_equivalent, demand3_read_iff_record_of_rooms}
 use Rattle.answers.specs.Answer as answers
 use Rattle.answers.specs.Demand1.{refused_record, written as read-written, demand1_record_answer}
-use Rattle.answers.specs.declared.RecordAnswer.{RecordAnswer}
-use Rattle.answers.specs.declared.RecordAnswer.TheVariants as recordIn
 use Rattle.entering.specs.Answer.{Short, rooms_answer, Slices, RoomsIn}
 use Rattle.entering.specs.Demand1.{RoomsSays, count, size, overlap, uncovered, four_meet, name_twice, short, wrote, demand1_rooms_cause, demand1_rooms_answer}
 
@@ -106,27 +104,27 @@ written→readable bytes all w =
 
 -- "is accepted exactly when they are the record of some accepted room list"
 pub demand3_read_iff_written : (bytes : List ℕ) → Bytes bytes → (labels rooms : ℕ) → ¬ answers.Short (kind_of bytes) labels rooms
-    → (answers.record_answer bytes labels rooms ≡ recordIn.Read (kind_of bytes)) ↔ WrittenFor bytes
+    → (answers.record_answer bytes labels rooms ≡ Ok (kind_of bytes)) ↔ WrittenFor bytes
 demand3_read_iff_written bytes all labels rooms long = (
   λ e. readable→written bytes all (read_readable bytes (sorted bytes) e),
   λ w. sym (demand1_record_answer bytes labels rooms (read-written (written→readable bytes all w) long)),
 )
   where
-    Is-read : RecordAnswer → Type 0
-    Is-read (recordIn.Read n) = Unit
-    Is-read (recordIn.Refused refusal) = ⊥
+    IsRead : Result ℕ Refusal → Type 0
+    IsRead (Ok n) = Unit
+    IsRead (Err refusal) = ⊥
 
-    read_readable : (bytes : List ℕ) → Sorted bytes → answers.record_answer bytes labels rooms ≡ recordIn.Read (kind_of bytes)
+    read_readable : (bytes : List ℕ) → Sorted bytes → answers.record_answer bytes labels rooms ≡ Ok (kind_of bytes)
         → Readable bytes
     read_readable bytes (read all) e = all
     read_readable bytes (refused cause) e =
-        absurd (subst Is-read (sym (demand1_record_answer bytes labels rooms (refused_record cause) ∙ e)) tt)
+        absurd (subst IsRead (sym (demand1_record_answer bytes labels rooms (refused_record cause) ∙ e)) tt)
 
 -- "any other bytes are refused whatever the slices", and always with the same number
 pub demand3_others_refused : (bytes : List ℕ) → Bytes bytes → ¬ WrittenFor bytes
-    → (refusal : Refusal) × ((labels rooms : ℕ) → answers.record_answer bytes labels rooms ≡ recordIn.Refused refusal)
+    → (refusal : Refusal) × ((labels rooms : ℕ) → answers.record_answer bytes labels rooms ≡ Err refusal)
 demand3_others_refused bytes all none = go (sorted bytes)
   where
-    go : Sorted bytes → (refusal : Refusal) × ((labels rooms : ℕ) → answers.record_answer bytes labels rooms ≡ recordIn.Refused refusal)
+    go : Sorted bytes → (refusal : Refusal) × ((labels rooms : ℕ) → answers.record_answer bytes labels rooms ≡ Err refusal)
     go (refused {refusal} cause) = (refusal, λ labels rooms. sym (demand1_record_answer bytes labels rooms (refused_record cause)))
     go (read readable) = absurd (none (readable→written bytes all readable))

@@ -15,24 +15,22 @@ use Rattle.rooms.specs.GridFloorplan.{length_drawing}
 use Rattle.rooms.proofs.Demand3.{drawing_of_record}
 use Rattle.answers.specs.Answer as answers
 use Rattle.answers.specs.Demand1.{RecordSays, refused_record, short, written, demand1_record_cause}
-use Rattle.answers.specs.declared.RecordAnswer.{RecordAnswer}
-use Rattle.answers.specs.declared.RecordAnswer.TheVariants as recordIn
 use Rattle.entering.specs.Answer.{Short, Slices, RoomsIn}
 use Rattle.entering.specs.Demand1.{wrote, demand1_rooms_answer}
 use Rattle.plans.specs.Demand3.{bytes_left, bytes_are_record}
 
 -- what a reading that is no refusal says of the bytes
-abbrev Reads : (bytes : List ℕ) → RecordAnswer → Type 0
-Reads bytes (recordIn.Read n) = Readable bytes × (n ≡ kind_of bytes)
-Reads bytes (recordIn.Refused refusal) = Unit
+abbrev Reads : (bytes : List ℕ) → Result ℕ Refusal → Type 0
+Reads bytes (Ok n) = Readable bytes × (n ≡ kind_of bytes)
+Reads bytes (Err refusal) = Unit
 
-says_reads : (bytes : List ℕ) {labels rooms : ℕ} {answer : RecordAnswer} → RecordSays bytes labels rooms answer → Reads bytes answer
+says_reads : (bytes : List ℕ) {labels rooms : ℕ} {answer : Result ℕ Refusal} → RecordSays bytes labels rooms answer → Reads bytes answer
 says_reads bytes (refused_record cause) = tt
 says_reads bytes (short all s) = tt
 says_reads bytes (written all s) = (all, refl)
 
 module _ {bytes : List ℕ} (all : Bytes bytes) {before after : answers.Slices} {n : ℕ}
-    (did : answers.RecordIn bytes before (recordIn.Read n) after) where
+    (did : answers.RecordIn bytes before (Ok n) after) where
   reads : Readable bytes × (n ≡ kind_of bytes)
   reads = subst (Reads bytes) (sym did.answered)
       (says_reads bytes (demand1_record_cause bytes (length before.labels) (length before.rooms)))
