@@ -11,7 +11,6 @@ use Rattle.record.specs.Labels.{label_at}
 use Rattle.record.specs.Read.{kind_of, labels_of}
 use Rattle.record.specs.Checked.{Readable}
 use Rattle.record.proofs.Demand2Read.{readable_only_list}
-use Rattle.record.specs.declared.Refusal.TheVariants.{PositionOutside, SamePosition}
 use Rattle.drawing.specs.declared.Room.{Room}
 use Rattle.drawing.specs.Drawing.{room_at}
 use Rattle.drawing.specs.InnerLine.{ShareInnerLine, FaceOnOneLine}
@@ -22,9 +21,8 @@ use Rattle.contacts.specs.Direct.{PositionsDirect}
 use Rattle.contacts.proofs.M102.{m102_positions_direct_iff_face_on_one_line}
 use Rattle.contacts.specs.Touches.{PositionsTouch}
 use Rattle.contacts.proofs.M101.{m101_positions_touch_iff_share_inner_line}
-use Rattle.questions.specs.Demand1.{outside, same, related, demand1_question_answer}
-use Rattle.questions.specs.Answer.{Outside, question_answer}
-use Rattle.questions.specs.declared.QuestionAnswer.TheVariants.{Related, Refused}
+use Rattle.questions.specs.Demand1.{related, demand1_question_answer}
+use Rattle.questions.specs.Answer.{Outside, answering, question_answer}
 
 pub within : (position n : ℕ) → ¬ Outside position n → (1 ≤ position) × (position ≤ n)
 within position n h =
@@ -36,15 +34,9 @@ module _ {bytes : List ℕ} {n : ℕ} (kind : n ≡ kind_of bytes) (readable : R
   abbrev f : ℕ → ℕ
   f = label_at (labels_of bytes)
 
-  pub outside_answer : Outside first n ⊎ Outside second n → Refused PositionOutside ≡ question_answer bytes first second
-  outside_answer h = demand1_question_answer bytes first second (outside readable (subst (λ (m : ℕ). Outside first m ⊎ Outside second m) kind h))
-
   module _ (inside : ¬ (Outside first n ⊎ Outside second n)) where
     inside_kind : ¬ (Outside first (kind_of bytes) ⊎ Outside second (kind_of bytes))
     inside_kind h = inside (subst (λ (m : ℕ). Outside first m ⊎ Outside second m) (sym kind) h)
-
-    pub same_answer : first ≡ second → Refused SamePosition ≡ question_answer bytes first second
-    same_answer e = demand1_question_answer bytes first second (same readable inside_kind e)
 
     abbrev room : ℕ → Room
     room = room_at f (kind_of bytes)
@@ -83,7 +75,7 @@ module _ {bytes : List ℕ} {n : ℕ} (kind : n ≡ kind_of bytes) (readable : R
 
     pub related_answer : n ≤ 255 → first ≢ second → {relation : Relation} {touch : Bool} → relation.side ≡ side_of f first second
         → Tells relation.direct (FaceOnOneLine (room first) (room second)) → Tells touch (ShareInnerLine n (room first) (room second))
-        → Related relation touch ≡ question_answer bytes first second
+        → answering relation touch ≡ question_answer bytes first second
     related_answer few differ {relation} {touch} side face share =
         let iff = direct_iff few differ in
         let direct = tells_iff _ _ relation.direct iff.1 iff.0 face in

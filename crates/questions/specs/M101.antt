@@ -10,15 +10,14 @@ use Rattle.contacts.specs.Direct.{relation_of}
 use Rattle.contacts.specs.Touches.{Touches, PositionsTouch}
 use Rattle.contacts.specs.DecideTouches.{dec_positions_touch}
 use Rattle.contacts.proofs.M101.{m101_rooms_touch_iff_positions_touch}
-use Rattle.questions.specs.Answer.{question_answer}
+use Rattle.questions.specs.Answer.{answering, question_answer}
 use Rattle.questions.specs.OfRooms.{question_of_rooms}
-use Rattle.questions.specs.declared.QuestionAnswer.TheVariants.{Related}
 
 -- asked by the record of a room list and the positions of its rooms a and b, the question tells whether these two touch
 pub record TellsTouch (rooms : List Room) (a b : ℕ) : Type 0 where
   pub relation : Relation
   pub touch : Bool
-  pub answer : question_answer (record_of_rooms rooms) (position_of rooms a) (position_of rooms b) ≡ Related relation touch
+  pub answer : question_answer (record_of_rooms rooms) (position_of rooms a) (position_of rooms b) ≡ answering relation touch
   pub tells : Tells touch (Touches rooms a b)
 
 -- so it is in every accepted room list

@@ -1,12 +1,13 @@
 -- M-102 of the question: its relation for a record and two positions is that of every accepted room list which has the record, for the
 -- rooms at these positions. "Two rooms in a direct relation always touch", so an answer that says direct says touch. With first and second
 -- exchanged it is the opposite side, equally direct, equally touching.
-use Rattle.std.specs.Prelude.{Bool, true, false, List, ◌≢◌, ◌↔◌, ◌≡◌, ℕ, ◌-◌, ◌≤◌, ◌<◌, length}
+use Rattle.std.specs.Prelude.{Bool, true, false, Result, Ok, Err, List, ◌≢◌, ◌↔◌, ◌≡◌, ℕ, ◌-◌, ◌≤◌, ◌<◌, length}
 use Rattle.std.proofs.Common.{inl, inr, sym, ap, ◌∙◌, arith}
 use Rattle.std.proofs.Math.Logic.{⊎_swap}
 use Rattle.finite.specs.Decide.{Tells, tells_iff, tells_same, told_true, told_false, holds, holds_tells}
 use Rattle.record.specs.Labels.{label_at}
 use Rattle.record.specs.Read.{kind_of, labels_of}
+use Rattle.record.specs.declared.Refusal.{Refusal}
 use Rattle.record.proofs.Demand2Read.{readable_only_list}
 use Rattle.drawing.specs.declared.Room.{Room}
 use Rattle.drawing.specs.declared.Relation.{Relation}
@@ -24,18 +25,17 @@ use Rattle.contacts.specs.Touches.{PositionsTouch}
 use Rattle.contacts.specs.DecideTouches.{dec_positions_touch}
 use Rattle.contacts.proofs.M101.{m101_touch_symmetric}
 use Rattle.contacts.proofs.M102.{m102_direct_or_only_through, m102_rooms_direct_iff_positions_direct}
-use Rattle.questions.specs.Answer.{question_answer}
+use Rattle.questions.specs.Answer.{answering, question_answer}
 use Rattle.questions.specs.Demand1.{QuestionSays, refused_record, outside, same, related, demand1_question_cause, demand1_question_answer}
 use Rattle.questions.specs.OfRooms.{question_of_rooms}
-use Rattle.questions.specs.declared.QuestionAnswer.{QuestionAnswer}
-use Rattle.questions.specs.declared.QuestionAnswer.TheVariants.{Related, Refused}
+use Rattle.questions.specs.declared.Related.{Related}
 
 -- asked by the record of a room list and the positions of its rooms a and b, the question tells on which side of b the room a stands, and
 -- whether "direct, by one segment that holds their facing edges, or only through a chain of more steps"
 pub record TellsRelation (rooms : List Room) (a b : ℕ) : Type 0 where
   pub relation : Relation
   pub touch : Bool
-  pub answer : question_answer (record_of_rooms rooms) (position_of rooms a) (position_of rooms b) ≡ Related relation touch
+  pub answer : question_answer (record_of_rooms rooms) (position_of rooms a) (position_of rooms b) ≡ answering relation touch
   pub stands : Stands rooms relation.side a b
   pub direct : Tells relation.direct (Direct rooms relation.side a b)
   pub through : relation.direct ≡ false → OnlyThrough rooms relation.side a b
@@ -69,14 +69,14 @@ m102_question_tells_relation rooms accepted a b ha hb differ = record {
         (holds_tells (dec_positions_direct (label_list rooms) relation.side (position_of rooms a) (position_of rooms b)))
 
 -- ---- direct, so touching
-abbrev pub DirectTouches : QuestionAnswer → Type 0
-DirectTouches (Related relation touch) = relation.direct ≡ true → touch ≡ true
-DirectTouches (Refused refusal) = Unit
+abbrev pub DirectTouches : Result Related Refusal → Type 0
+DirectTouches (Ok told) = told.relation.direct ≡ true → told.touch ≡ true
+DirectTouches (Err refusal) = Unit
 
 pub m102_direct_answer_touches : (bytes : List ℕ) (first second : ℕ) → DirectTouches (question_answer bytes first second)
 m102_direct_answer_touches bytes first second = go (demand1_question_cause bytes first second)
   where
-    go : {answer : QuestionAnswer} → QuestionSays bytes first second answer → DirectTouches answer
+    go : {answer : Result Related Refusal} → QuestionSays bytes first second answer → DirectTouches answer
     go (refused_record cause) = tt
     go (outside all o) = tt
     go (same all o e) = tt
@@ -91,9 +91,9 @@ m102_direct_answer_touches bytes first second = go (demand1_question_cause bytes
 
 -- ---- first and second exchanged
 -- the opposite side, equally direct, equally touching
-abbrev pub exchanged : QuestionAnswer → QuestionAnswer
-exchanged (Related relation touch) = Related (record { side = converse relation.side; direct = relation.direct }) touch
-exchanged (Refused refusal) = Refused refusal
+abbrev pub exchanged : Result Related Refusal → Result Related Refusal
+exchanged (Ok told) = answering (record { side = converse told.relation.side; direct = told.relation.direct }) told.touch
+exchanged (Err refusal) = Err refusal
 
 pub m102_question_exchanged : (bytes : List ℕ) (first second : ℕ)
     → question_answer bytes second first ≡ exchanged (question_answer bytes first second)
@@ -103,7 +103,7 @@ m102_question_exchanged bytes first second =
     labels : List ℕ
     labels = labels_of bytes
 
-    turned : {answer : QuestionAnswer} → QuestionSays bytes first second answer → QuestionSays bytes second first (exchanged answer)
+    turned : {answer : Result Related Refusal} → QuestionSays bytes first second answer → QuestionSays bytes second first (exchanged answer)
     turned (refused_record cause) = refused_record cause
     turned (outside all o) = outside all (⊎_swap o)
     turned (same all o e) = same all (λ p. o (⊎_swap p)) (sym e)

@@ -1,9 +1,10 @@
 -- The question asked by the record of an accepted room list and the positions of two of its rooms: it answers from the label list.
-use Rattle.std.specs.Prelude.{List, ◌≢◌, ◌⊎◌, ◌≡◌, refl, ℕ, ◌<◌, length}
+use Rattle.std.specs.Prelude.{List, ◌≢◌, ◌⊎◌, ◌≡◌, refl, ℕ, ◌<◌, length, Result}
 use Rattle.std.proofs.Common.{inl, inr, sym, subst, arith}
 use Rattle.finite.specs.Decide.{holds, holds_tells}
 use Rattle.record.specs.Read.{kind_of, labels_of}
 use Rattle.record.specs.Checked.{Readable}
+use Rattle.record.specs.declared.Refusal.{Refusal}
 use Rattle.drawing.specs.declared.Room.{Room}
 use Rattle.rooms.specs.Causes.{AcceptedRooms}
 use Rattle.rooms.specs.LabelList.{position_of, label_list, record_of_rooms}
@@ -12,14 +13,13 @@ use Rattle.rooms.proofs.LabelFacts.{positions_are_1_to_n}
 use Rattle.rooms.proofs.Demand3.{record_of_rooms_readable, label_list_back, kind_of_rooms}
 use Rattle.contacts.specs.Direct.{relation_of, dec_positions_direct}
 use Rattle.contacts.specs.DecideTouches.{dec_positions_touch}
-use Rattle.questions.specs.Answer.{Outside, question_answer}
+use Rattle.questions.specs.Answer.{Outside, answering, question_answer}
 use Rattle.questions.specs.Demand1.{related, demand1_question_answer}
-use Rattle.questions.specs.declared.QuestionAnswer.{QuestionAnswer}
-use Rattle.questions.specs.declared.QuestionAnswer.TheVariants.{Related}
+use Rattle.questions.specs.declared.Related.{Related}
 
 -- what is answered for two positions of a label list
-abbrev pub answer_for : (labels : List ℕ) (first second : ℕ) → QuestionAnswer
-answer_for labels first second = Related (relation_of labels first second) (holds (dec_positions_touch labels first second))
+abbrev pub answer_for : (labels : List ℕ) (first second : ℕ) → Result Related Refusal
+answer_for labels first second = answering (relation_of labels first second) (holds (dec_positions_touch labels first second))
 
 pub question_of_rooms : (rooms : List Room) → AcceptedRooms rooms → (a b : ℕ) → a < length rooms → b < length rooms → a ≢ b
     → question_answer (record_of_rooms rooms) (position_of rooms a) (position_of rooms b)
