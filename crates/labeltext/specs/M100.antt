@@ -1,9 +1,10 @@
 -- M-100's promises. "Two accepted texts have the same tidy form exactly if they list the same labels in the same order, and tidying a
 -- tidy text changes nothing." "The tidy forms of two accepted texts are the same exactly when the grid drawings of their labels are
 -- equivalent." Each is stated of texts, and then of what calls answer and leave.
-use Rattle.std.specs.Prelude.{List, [], ◌++◌, ◌↔◌, ◌≡◌, refl, ℕ, suc, ◌≤◌, length, take, drop}
+use Rattle.std.specs.Prelude.{Result, Ok, Err, List, [], ◌++◌, ◌↔◌, ◌≡◌, refl, ℕ, suc, ◌≤◌, length, take, drop}
 use Rattle.std.proofs.Common.{sym, ap, subst, ◌∙◌, arith}
 use Rattle.std.proofs.Math.Seq.{take-append_seam}
+use Rattle.record.specs.declared.Refusal.{Refusal}
 use Rattle.record.specs.Judged.{Sound}
 use Rattle.record.proofs.Demand2.{sound→baxter}
 use Rattle.drawing.specs.Drawing.{drawing_of}
@@ -19,8 +20,6 @@ use Rattle.labeltext.specs.TidyLists.{Small, small, tidy_lists}
 use Rattle.labeltext.specs.TidySize.{sound_tidy_size}
 use Rattle.labeltext.specs.Answer.{labels_in, tidy_form, Tidied}
 use Rattle.labeltext.specs.Demand1.{AcceptedText, TidySays, breaks, refused, short, wrote, demand1_tidy_cause, demand1_tidy_answer}
-use Rattle.labeltext.specs.declared.TidyAnswer.{TidyAnswer}
-use Rattle.labeltext.specs.declared.TidyAnswer.TheVariants.{Wrote, Refused}
 
 -- the labels of a text are those that it lists
 pub labels_are_listed : (text numbers : List ℕ) → length text ≤ 4096 → Lists text numbers → labels_in text ≡ numbers
@@ -90,11 +89,11 @@ module _ (text other : List ℕ) (k : AcceptedText text) (l : AcceptedText other
       )
 
 -- ---- what an answer that is no refusal says
-abbrev Accepts : (text : List ℕ) → TidyAnswer → Type 0
-Accepts text (Wrote n) = AcceptedText text × (n ≡ length (tidy_form text))
-Accepts text (Refused refusal) = Unit
+abbrev Accepts : (text : List ℕ) → Result ℕ Refusal → Type 0
+Accepts text (Ok n) = AcceptedText text × (n ≡ length (tidy_form text))
+Accepts text (Err refusal) = Unit
 
-says_accepts : {text : List ℕ} {capacity : ℕ} {answer : TidyAnswer} → TidySays text capacity answer → Accepts text answer
+says_accepts : {text : List ℕ} {capacity : ℕ} {answer : Result ℕ Refusal} → TidySays text capacity answer → Accepts text answer
 says_accepts (breaks b) = tt
 says_accepts (refused f c) = tt
 says_accepts (short k s) = tt
@@ -105,7 +104,7 @@ says_accepts (wrote k s) = (k, refl)
 abbrev pub bytes_left : (n : ℕ) (after : List ℕ) → List ℕ
 bytes_left n after = take n after
 
-module _ {text before after : List ℕ} {n : ℕ} (did : Tidied text before (Wrote n) after) where
+module _ {text before after : List ℕ} {n : ℕ} (did : Tidied text before (Ok n) after) where
   accepts : AcceptedText text × (n ≡ length (tidy_form text))
   accepts = subst (Accepts text) (sym did.answered) (says_accepts (demand1_tidy_cause text (length before)))
 
@@ -121,7 +120,7 @@ module _ {text before after : List ℕ} {n : ℕ} (did : Tidied text before (Wro
 
 -- the unique-code rule, of the bytes that two calls leave
 pub m100_same_bytes_iff_equivalent : (text other before after other-before other_After : List ℕ) (n m : ℕ)
-    → Tidied text before (Wrote n) after → Tidied other other-before (Wrote m) other_After
+    → Tidied text before (Ok n) after → Tidied other other-before (Ok m) other_After
     → (bytes_left n after ≡ bytes_left m other_After) ↔ Equivalent (drawing_of (labels_in text)) (drawing_of (labels_in other))
 m100_same_bytes_iff_equivalent text other before after other-before other_After n m did second =
     let one = bytes_are_tidy did in
@@ -131,17 +130,17 @@ m100_same_bytes_iff_equivalent text other before after other-before other_After 
 
 -- "tidying a tidy text changes nothing", of the bytes that a call left: handed in with a slice that holds as many, they are answered
 -- by the same length and left as the same bytes
-pub m100_tidied_again : (text before after : List ℕ) (n : ℕ) → Tidied text before (Wrote n) after
-    → (again left : List ℕ) (answer : TidyAnswer) → n ≤ length again → Tidied (bytes_left n after) again answer left
-    → (answer ≡ Wrote n) × (bytes_left n left ≡ bytes_left n after)
+pub m100_tidied_again : (text before after : List ℕ) (n : ℕ) → Tidied text before (Ok n) after
+    → (again left : List ℕ) (answer : Result ℕ Refusal) → n ≤ length again → Tidied (bytes_left n after) again answer left
+    → (answer ≡ Ok n) × (bytes_left n left ≡ bytes_left n after)
 m100_tidied_again text before after n did again left answer room second =
     let (k, size) = accepts did in
     let is = bytes_are_tidy did in
     let same = ap tidy_form is ∙ m100_tidy_form_same k in
     let long : n ≡ length (tidy_form (bytes_left n after)) = size ∙ sym (ap length same) in
     let accepted = subst AcceptedText (sym is) (m100_tidy_form_accepted k) in
-    let wrote_again : Wrote n ≡ answer =
-    ap Wrote long ∙ demand1_tidy_answer (bytes_left n after) (length again) (wrote accepted (λ s. omega arith))
+    let wrote_again : Ok n ≡ answer =
+    ap Ok long ∙ demand1_tidy_answer (bytes_left n after) (length again) (wrote accepted (λ s. omega arith))
     ∙ sym second.answered in
-    let bytes = bytes_are_tidy (subst (λ (a : TidyAnswer). Tidied (bytes_left n after) again a left) (sym wrote_again) second) in
+    let bytes = bytes_are_tidy (subst (λ (a : Result ℕ Refusal). Tidied (bytes_left n after) again a left) (sym wrote_again) second) in
     (sym wrote_again, bytes ∙ same ∙ sym is)

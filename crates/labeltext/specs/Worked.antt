@@ -1,7 +1,8 @@
 -- Texts and their answers, computed from the definitions.
-use Rattle.std.specs.Prelude.{List, [], ◌∷◌, ◌≡◌, refl, ℕ}
+use Rattle.std.specs.Prelude.{Result, Ok, Err, List, [], ◌∷◌, ◌≡◌, refl, ℕ}
 use Prim.Native.String.{String}
 use Rattle.finite.specs.Decide.{dec-¬}
+use Rattle.record.specs.declared.Refusal.{Refusal}
 use Rattle.record.specs.Causes.{dec_count, dec_outside, dec_twice, dec_barred}
 use Rattle.record.specs.Refusal.{number_of}
 use Rattle.digits.specs.Ascii.{ascii}
@@ -12,8 +13,6 @@ use Rattle.labeltext.specs.LineOf.{line_length}
 use Rattle.labeltext.specs.Decide.{dec_keeps_form}
 use Rattle.labeltext.specs.Tidy.{tidy_rest, tidy_line}
 use Rattle.labeltext.specs.Answer.{labels_in, tidy_form, tidy_answer}
-use Rattle.labeltext.specs.declared.TidyAnswer.{TidyAnswer}
-use Rattle.labeltext.specs.declared.TidyAnswer.TheVariants.{Wrote, Refused}
 
 pub data Shown : Type 0 where
   tidied : List ℕ → Shown
@@ -23,9 +22,9 @@ pub data Shown : Type 0 where
 abbrev pub answer : String → Shown
 answer text = show (tidy_answer (ascii text) 912)
   where
-    show : TidyAnswer → Shown
-    show (Wrote size) = tidied (tidy_form (ascii text))
-    show (Refused r) = refusal (number_of r)
+    show : Result ℕ Refusal → Shown
+    show (Ok size) = tidied (tidy_form (ascii text))
+    show (Err r) = refusal (number_of r)
 
 abbrev pub answers : List String → List Shown
 answers [] = []
