@@ -1,4 +1,4 @@
 pub mod Fields
-pub mod Digits
+pub mod Put
 pub mod Labels
 pub mod Listed

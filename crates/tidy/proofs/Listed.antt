@@ -8,12 +8,12 @@ use native.Mathlib.Decide.{dec_lt}
 use native.Mathlib.Omega.{arith}
 use lib.ListN.{length, get_or, take}
 use lib.Seq.{ext_get_or, get_or-take, length-take-le}
+use Rattle.std.specs.Prelude.{Result, Err}
 use Rattle.record.specs.Labels.{LabelOutside}
 use Rattle.record.specs.Causes.{BadCount, dec_outside}
 use Rattle.record.specs.Judged as judged
 use Rattle.record.specs.Judged.{RefusesLabels, count, outside, twice, not_permutation, barred, Judgement, judgement, refused_judged}
 use Rattle.record.specs.declared.Refusal.{Refusal}
-use Rattle.record.specs.declared.Refusal.TheVariants.{Count}
 use Rattle.labeltext.specs.Form.{KeepsForm}
 use Rattle.labeltext.specs.Reader.{start, run, Done, numbers_of}
 use Rattle.labeltext.specs.LineOf.{line_of}
@@ -22,17 +22,15 @@ use Rattle.labeltext.specs.Answer.{BreaksForm, labels_in, labels_tidied, tidy_an
 use Rattle.labeltext.specs.Demand1 as says
 use Rattle.labeltext.specs.Demand1.{demand1_tidy_answer, kept_answer}
 use Rattle.labeltext.specs.M100.{labels_are_listed}
-use Rattle.labeltext.specs.declared.TidyAnswer.{TidyAnswer}
-use Rattle.labeltext.specs.declared.TidyAnswer.TheVariants.{Refused}
 use Rattle.numbers.specs.Number.{as_byte}
-use Rattle.numbers.specs.Store.{Stores, ListedAs}
+use Rattle.numbers.specs.Store.{Stores, ListedAs, Refuses, broken, many}
 use Rattle.tidy.specs.Labels.{TidiedLabels}
 
 -- a text that is too long, or whose line is not read to its end
 pub long_breaks : (text : List ℕ) → 4096 < length text → BreaksForm text
 long_breaks text h k = omega (arith, k.short)
 
-pub unread_breaks : (text : List ℕ) → ¬ Done (run start (line_of text)) → BreaksForm text
+unread_breaks : (text : List ℕ) → ¬ Done (run start (line_of text)) → BreaksForm text
 unread_breaks text h k = h (lists_done k.lists)
 
 -- a text that is
@@ -50,12 +48,15 @@ module _ (text : List ℕ) (short : length text ≤ 4096) (done : Done (run star
   read_labels : labels_in text ≡ numbers_of (run start (line_of text))
   read_labels = labels_are_listed text (numbers_of (run start (line_of text))) short (read_lists text done)
 
-  -- more than 255 numbers
-  pub many_tidied : (before : List ℕ) → 255 < length (numbers_of (run start (line_of text))) → Tidied text before (Refused Count) before
-  many_tidied before many = record {
-    answered = demand1_tidy_answer text (length before) (says.refused kept_form (not_permutation (count (inr (omega (arith, ap length read_labels))))));
-    left = refl;
-  }
+-- a text whose line is refused
+pub refused_tidied_text : (text before : List ℕ) {refusal : Refusal} → length text ≤ 4096 → Refuses (line_of text) refusal
+    → Tidied text before (Err refusal) before
+refused_tidied_text text before short (broken unread) =
+    record { answered = demand1_tidy_answer text (length before) (says.breaks (unread_breaks text unread)); left = refl }
+refused_tidied_text text before short (many done above) =
+    let bad : BadCount (length (labels_in text)) = inr (omega (arith, ap length (read_labels text short done))) in
+    let cause = not_permutation (count bad) in
+    record { answered = demand1_tidy_answer text (length before) (says.refused (kept_form text short done) cause); left = refl }
 
 pub listed : (text : List ℕ) (size : ℕ) (store : List ℕ) → length text ≤ 4096 → ListedAs size (line_of text) store → Listed text size store
 listed text size store short l =
@@ -114,7 +115,7 @@ module _ {text : List ℕ} {size : ℕ} {store : List ℕ} (l : Listed text size
       byte_at k k_in ∙ byte_small (get_or (labels_in text) k 0) (omega (arith, l.size_is, l.few)))
 
   -- what is answered for the stored list is the answer for the text
-  pub stored_tidied : {before after : List ℕ} {answer : TidyAnswer} → TidiedLabels (take size store) before answer after → Tidied text before answer after
+  pub stored_tidied : {before after : List ℕ} {answer : Result ℕ Refusal} → TidiedLabels (take size store) before answer after → Tidied text before answer after
   stored_tidied {before} {after} {answer} t = elim (dec_outside (labels_in text)) [
     | no inside ↦
         let same = inside_stored inside in
@@ -131,8 +132,8 @@ module _ {text : List ℕ} {size : ℕ} {store : List ℕ} (l : Listed text size
       go : Judgement (take size store) → LabelOutside (labels_in text) → Tidied text before answer after
       go (judged.sound s) there = absurd (s.permutation.inside (outside_stored there))
       go (judged.refused {refusal} cause) there =
-          let is : answer ≡ Refused refusal = t.answered ∙ sym (refused_judged Refused (take size store) _ cause) in
+          let is : answer ≡ Err refusal = t.answered ∙ sym (refused_judged Err (take size store) _ cause) in
           record {
-            answered = is ∙ refused_judged Refused (labels_in text) _ (refused_outside (stored_size ∙ l.size_is) (outside_stored there) there cause) ∙ kept;
-            left = t.left ∙ ap (λ (a : TidyAnswer). tidy_after a (take size store) before) is ∙ sym (ap (λ (a : TidyAnswer). tidy_after a (labels_in text) before) is);
+            answered = is ∙ refused_judged Err (labels_in text) _ (refused_outside (stored_size ∙ l.size_is) (outside_stored there) there cause) ∙ kept;
+            left = t.left ∙ ap (λ (a : Result ℕ Refusal). tidy_after a (take size store) before) is ∙ sym (ap (λ (a : Result ℕ Refusal). tidy_after a (labels_in text) before) is);
           }

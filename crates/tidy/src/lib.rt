@@ -1,27 +1,25 @@
 // Tidy: a text that lists labels becomes its tidy form, or is refused with 18, 1, 6, 7, 8 or 15, in this order.
 #![tactic(auto)]
 
-ghost use Rattle.std.specs.Prelude.{◌++◌, ◌≡◌, ◌+◌, ◌-◌, ◌≤◌, ◌<◌, ltb, length, drop};
+ghost use Rattle.std.specs.Prelude.{◌++◌, ◌≡◌, ◌+◌, ◌≤◌, length, drop};
 ghost use Rattle.std.proofs.lemmas.List.Edits.{sets};
-ghost use Rattle.bits.specs.Bit.{bit};
 ghost use Rattle.digits.specs.Decimal.{space, field};
-ghost use Rattle.labeltext.specs.LineOf.{line_length};
+ghost use Rattle.labeltext.specs.LineOf.{line_of};
 ghost use Rattle.labeltext.specs.Tidy.{tidy_text};
 ghost use Rattle.labeltext.specs.TidySize.{tidy_size};
 ghost use Rattle.labeltext.specs.Answer.{Tidied};
 ghost use Rattle.tidy.specs.Digits.{DigitsOf, AllDigits};
 ghost use Rattle.tidy.specs.Labels.{TidiedLabels};
 
-use labels::Verdict;
-use labeltext::TidyAnswer;
-use numbers::Reading;
+use labeltext::LONGEST;
 use record::Refusal;
 
-// How many of the labels 1 to n are above a number.
-fn labels_above(n: usize, number: usize) -> usize
-    ensures { result ≡ n - number }
-{
-    if number < n { n - number } else { 0 }
+// The three digits of each label as bytes, in three lists: so the compiler takes several labels at a time.
+#[derive(Clone, Copy)]
+struct Digits {
+    hundreds: [u8; 255],
+    tens: [u8; 255],
+    ones: [u8; 255],
 }
 
 // The length of the tidy text of n labels that are 1 to n, each once: two bytes for each, one more for each above 9, and one more for each
@@ -30,31 +28,20 @@ fn tidy_size(n: usize) -> usize
     requires { n ≤ 255 }
     ensures { result ≡ tidy_size n }
 {
-    2 * n + labels_above(n, 9) + labels_above(n, 99)
+    2 * n + n.saturating_sub(9) + n.saturating_sub(99)
 }
 
-// The three digits of each label. They are found before any is put: no label waits for where the one before it ends, and the compiler takes
-// several labels at a time.
-fn all_digits(labels: &[u8], hundreds: &mut [u8; 255], tens: &mut [u8; 255], ones: &mut [u8; 255])
-    requires { (length labels.now ≤ 255) × (length hundreds.old ≡ 255) × (length tens.old ≡ 255) × (length ones.old ≡ 255) }
-    ensures { AllDigits labels.now hundreds.new tens.new ones.new }
+// The three digits of each label. They are found before any is put: no label waits for where the one before it ends.
+fn all_digits(labels: &[u8], digits: &mut Digits)
+    requires { length labels.now ≤ 255 }
+    ensures { AllDigits labels.now digits.new.hundreds digits.new.tens digits.new.ones }
 {
-    let n = labels.len();
-    let mut k = 0;
-    while k < n {
+    for k in 0..labels.len() {
         let label = labels[k];
-        hundreds[k] = b'0' + label / 100;
-        tens[k] = b'0' + label / 10 % 10;
-        ones[k] = b'0' + label % 10;
-        k += 1;
+        digits.hundreds[k] = b'0' + label / 100;
+        digits.tens[k] = b'0' + label / 10 % 10;
+        digits.ones[k] = b'0' + label % 10;
     }
-}
-
-// 1 where a label is above a number, else 0.
-fn above(label: u8, number: u8) -> usize
-    ensures { (result ≡ bit (ltb number label)) × (result ≤ 1) }
-{
-    if number < label { 1 } else { 0 }
 }
 
 // Puts a label, by its three digits, and a space after it where the text so far ends, and answers where it then ends. A zero in front is
@@ -65,9 +52,9 @@ fn put_field(text: &mut [u8], at: usize, label: u8, hundred: u8, ten: u8, one: u
     ensures next { result ≡ at + length (field label space) }
 {
     text[at] = hundred;
-    let second = at + above(label, 99);
+    let second = at + usize::from(99 < label);
     text[second] = ten;
-    let third = second + above(label, 9);
+    let third = second + usize::from(9 < label);
     text[third] = one;
     text[third + 1] = b' ';
     third + 2
@@ -80,63 +67,58 @@ fn put_labels(labels: &[u8], tidy: &mut [u8])
     ensures { tidy.new
         ≡ tidy_text labels.now ++ drop (length (tidy_text labels.now)) tidy.old }
 {
-    let mut hundreds = [0u8; 255];
-    let mut tens = [0u8; 255];
-    let mut ones = [0u8; 255];
-    all_digits(labels, &mut hundreds, &mut tens, &mut ones);
-    let n = labels.len();
+    let mut digits = Digits {
+        hundreds: [0; 255],
+        tens: [0; 255],
+        ones: [0; 255],
+    };
+    all_digits(labels, &mut digits);
     let mut at = 0;
-    let mut k = 0;
-    while k < n {
-        at = put_field(tidy, at, labels[k], hundreds[k], tens[k], ones[k]);
-        k += 1;
+    for k in 0..labels.len() {
+        at = put_field(
+            tidy,
+            at,
+            labels[k],
+            digits.hundreds[k],
+            digits.tens[k],
+            digits.ones[k],
+        );
     }
     tidy[at - 1] = b'\n';
 }
 
 // The tidy text of some labels, from the front of the output slice, and its length; or the refusal, and the slice as it was.
-fn tidy_labels(labels: &[u8], tidy: &mut [u8]) -> TidyAnswer
+fn tidy_labels(labels: &[u8], tidy: &mut [u8]) -> Result<usize, Refusal>
     ensures { TidiedLabels labels.now tidy.old result tidy.new }
 {
-    let verdict = labels::judge(labels);
-    if let Verdict::Refused(refusal) = verdict {
-        return TidyAnswer::Refused(refusal);
-    }
+    labels::judge(labels)?;
     let size = tidy_size(labels.len());
     if tidy.len() < size {
-        return TidyAnswer::Refused(Refusal::ShortOutput);
+        return Err(Refusal::ShortOutput);
     }
     put_labels(labels, tidy);
-    TidyAnswer::Wrote(size)
+    Ok(size)
 }
 
-// The length of a text without the newline that may end it.
-fn line_length(text: &[u8]) -> usize
-    ensures { (result ≡ line_length text.now) × (result ≤ length text.now) }
+// A text without the newline that may end it.
+fn line_of(text: &[u8]) -> &[u8]
+    ensures { result.now ≡ line_of text.now }
 {
     let n = text.len();
-    if n == 0 {
-        return 0;
+    if n == 0 || text[n - 1] != b'\n' {
+        return text;
     }
-    if text[n - 1] == b'\n' {
-        return n - 1;
-    }
-    n
+    &text[..n - 1]
 }
 
 // The tidy form of a text, from the front of the output slice, and its length; or the refusal, and the slice as it was.
-pub fn tidy(text: &[u8], tidy: &mut [u8]) -> TidyAnswer
+pub fn tidy(text: &[u8], tidy: &mut [u8]) -> Result<usize, Refusal>
     ensures { Tidied text.now tidy.old result tidy.new }
 {
-    if 4096 < text.len() {
-        return TidyAnswer::Refused(Refusal::TextForm);
+    if LONGEST < text.len() {
+        return Err(Refusal::TextForm);
     }
-    let n = line_length(text);
     let mut list = [0u8; 256];
-    let reading = numbers::read(&text[..n], &mut list);
-    match reading {
-        Reading::Broken => TidyAnswer::Refused(Refusal::TextForm),
-        Reading::Many => TidyAnswer::Refused(Refusal::Count),
-        Reading::Listed(count) => tidy_labels(&list[..count], tidy),
-    }
+    let count = numbers::read(line_of(text), &mut list)?;
+    tidy_labels(&list[..count], tidy)
 }

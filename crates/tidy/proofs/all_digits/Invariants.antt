@@ -1,7 +1,7 @@
 -- `tidy::all_digits` meets its contract: before each turn the digits of the first k labels stand in the three arrays.
 use mathlib.Core.List.{List}
-use Prim.Native.Nat.{ℕ, ◌-◌, ◌≤◌}
-use lib.ListN.{length, get_or}
+use Prim.Native.Nat.{ℕ}
+use lib.ListN.{get_or}
 use Rattle.finite.specs.Fill.{Filling}
 use Rattle.tidy.specs.Digits.{hundred_of, ten_of, one_of}
 use Rattle.tidy.proofs.all_digits.Given as goal
@@ -11,7 +11,7 @@ abbrev pub Held : (digit : ℕ → ℕ) (labels : List ℕ) (k : ℕ) (before no
 Held digit labels k before now = Filling (λ q. digit (get_or labels q 0)) 0 k before now
 
 abbrev pub invariant-loop-k : goal.invariant-loop-k
-invariant-loop-k l = (l.k ≤ length l.labels) × Held hundred_of l.labels l.k l.initial.hundreds l.hundreds × Held ten_of l.labels l.k l.initial.tens l.tens × Held one_of l.labels l.k l.initial.ones l.ones
-
-abbrev pub decreases-loop-k : goal.decreases-loop-k
-decreases-loop-k l = l.n - l.k
+invariant-loop-k l =
+    Held hundred_of l.labels l.k l.initial.digits.hundreds l.digits.hundreds
+    × Held ten_of l.labels l.k l.initial.digits.tens l.digits.tens
+    × Held one_of l.labels l.k l.initial.digits.ones l.digits.ones

@@ -1,13 +1,20 @@
 -- What is put of the digits of a label.
+use mathlib.Core.Bool.{Bool, true, false}
 use mathlib.Core.List.{List, [], ◌∷◌, ◌++◌}
-use mathlib.Core.Path.{◌≡◌, sym, ap, ◌∙◌}
+use mathlib.Core.Path.{◌≡◌, refl, sym, ap, ◌∙◌}
 use Prim.Native.Nat.{ℕ, suc, ◌+◌, ◌/◌, ◌%◌, ◌<◌}
 use native.Mathlib.Omega.{arith}
 use lib.ListN.{set}
 use lib.Seq.{set-set, sets}
+use Rattle.std.specs.Int.{from_bool}
+use Rattle.bits.specs.Bit.{bit}
 use Rattle.digits.specs.Decimal.{space, digit, decimal, field}
 use Rattle.labeltext.specs.TidySize.{tens, hundreds, Digits, one, two, three, digits}
 use Rattle.tidy.specs.Digits.{DigitsOf}
+
+pub bit_is : (b : Bool) → from_bool b ≡ bit b
+bit_is true = refl
+bit_is false = refl
 
 -- three digits are put, each over the one before where that was none, and a space
 module _ (label : ℕ) (text : List ℕ) (at : ℕ) where
