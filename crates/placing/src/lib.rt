@@ -1,30 +1,12 @@
 // Rooms of real sizes, placed in one walk along the triples of a record's body: their lowest corners, and the needed lengths.
 #![tactic(auto)]
 
-ghost use Rattle.std.specs.Prelude.{◌≡◌, ◌+◌, ◌≤◌, max, length};
+ghost use Rattle.std.specs.Prelude.{◌≡◌, ◌≤◌, length};
 ghost use Rattle.record.specs.Labels.{label_at};
 ghost use Rattle.sizes.specs.Direction.{across, upward};
 ghost use Rattle.judging.specs.Walkable.{labels_in, Walkable};
 ghost use Rattle.placing.specs.Along.{LowestFor};
 
-// A size as a length.
-pub fn length_of(size: u16) -> u32
-    ensures { (result ≡ size) × (result ≤ 65535) }
-{
-    size as u32
-}
-
-// The larger of two lengths. The compiler makes no jump of it, which could not be foreseen.
-fn larger(a: u32, b: u32) -> u32
-    ensures { result ≡ max a b }
-{
-    if a < b {
-        return b;
-    }
-    a
-}
-
-// ---- the walk along the triples
 // The line of a room lies at the furthest end of it and of the rooms behind it. Of the current run and of the runs below it and above it
 // the line of the newest room is known, across and up, in a stack for each, the nearest run's on top; under each stack is the outline's
 // line, 0. Each turn stores the current run's lines above the tops, and the counts of runs say how much of a stack is in use. A new room
@@ -40,8 +22,8 @@ pub struct Needed {
 
 // The lowest corners of the rooms, from the front of two slices, and the needed lengths.
 pub fn lowest(body: &[u8], widths: &[u16], heights: &[u16], x: &mut [u32], y: &mut [u32]) -> Needed
-    requires fact_1 { Walkable body.now (length widths.now) × (length heights.now ≡ length widths.now) }
-    requires fact_2 { (length widths.now ≤ length x.old) × (length widths.now ≤ length y.old) }
+    requires sizes { Walkable body.now (length widths.now) × (length heights.now ≡ length widths.now) }
+    requires places { (length widths.now ≤ length x.old) × (length widths.now ≤ length y.old) }
     ensures across { LowestFor (label_at (labels_in body.now (length widths.now))) across
         (length widths.now) widths.now x.old result.across x.new }
     ensures upward { LowestFor (label_at (labels_in body.now (length widths.now))) upward
@@ -53,10 +35,9 @@ pub fn lowest(body: &[u8], widths: &[u16], heights: &[u16], x: &mut [u32], y: &m
     let mut up_above = [0u32; 256];
     let mut runs_below = 0;
     let mut runs_above = 0;
-    let mut right = length_of(widths[0]);
-    let mut top = length_of(heights[0]);
-    let mut k = 0;
-    while k + 1 < widths.len() {
+    let mut right = u32::from(widths[0]);
+    let mut top = u32::from(heights[0]);
+    for k in 0..widths.len() - 1 {
         let turn = steps::turn_of(bits::group(body, k));
         across_below[runs_below + 1] = right;
         across_above[runs_above + 1] = right;
@@ -71,11 +52,10 @@ pub fn lowest(body: &[u8], widths: &[u16], heights: &[u16], x: &mut [u32], y: &m
         y[next] = bottom;
         let beside = across_above[steps::chosen(turn.above, above, 0)];
         let under = up_below[steps::chosen(turn.below, below, 0)];
-        right = larger(left + length_of(widths[next]), beside);
-        top = larger(bottom + length_of(heights[next]), under);
+        right = (left + u32::from(widths[next])).max(beside);
+        top = (bottom + u32::from(heights[next])).max(under);
         runs_below = below - turn.below;
         runs_above = above - turn.above;
-        k = next;
     }
     x[0] = 0;
     y[0] = 0;

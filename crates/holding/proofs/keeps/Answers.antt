@@ -18,18 +18,18 @@ told e = subst (λ (u : Triple). Says u e.turn_of-turn.result) (ap triple_of e.g
 
 fits : (e : After-turn_of-turn) → TurnFits e.loop-k.runs_below e.loop-k.runs_above e.turn_of-turn.result
 fits e =
-    holding_fits e.args.body.now e.args.widths.now e.args.heights.now e.args.x.now e.args.y.now e.requires.fact_1.0 e.loop-k.invariant e.loop-k-test.true e.turn_of-turn.result (told e)
+    holding_fits e.args.body.now e.args.widths.now e.args.heights.now e.args.x.now e.args.y.now e.requires.sizes.0 e.loop-k.invariant (omega arith) e.turn_of-turn.result (told e)
 
 pub loop-k-init : goal.loop-k-init
-loop-k-init c = holding_first c.args.body.now c.args.widths.now c.args.heights.now c.args.x.now c.args.y.now c.requires.fact_1.0 c.end_of-right.ensures c.end_of-top.ensures
+loop-k-init c = holding_first c.args.body.now c.args.widths.now c.args.heights.now c.args.x.now c.args.y.now c.requires.sizes.0 c.end_of-right.ensures c.end_of-top.ensures
 
-pub returns-then-wide-across_below : goal.returns-then-wide-across_below
-returns-then-wide-across_below c =
-    λ honours. broken_across c.args.body.now c.args.widths.now c.args.heights.now c.args.x.now c.args.y.now c.requires.fact_1.0 c.loop-k.invariant c.loop-k-test.true c.turn_of-turn.result (told (goal.at.returns-then-wide-across_below c).After-turn_of-turn) c.wide.ensures.0 c.if-wide-across_below.true (all_honoured c.args.body.now c.args.widths.now c.args.heights.now c.args.x.now c.args.y.now honours across)
+pub returns-then-from-across_below : goal.returns-then-from-across_below
+returns-then-from-across_below c =
+    λ honours. broken_across c.args.body.now c.args.widths.now c.args.heights.now c.args.x.now c.args.y.now c.requires.sizes.0 c.loop-k.invariant (omega arith) c.turn_of-turn.result (told (goal.at.returns-then-from-across_below c).After-turn_of-turn) (omega arith) c.if-from-across_below.true (all_honoured c.args.body.now c.args.widths.now c.args.heights.now c.args.x.now c.args.y.now honours across)
 
-pub returns-then-wide-up_above : goal.returns-then-wide-up_above
-returns-then-wide-up_above c =
-    λ honours. broken_upward c.args.body.now c.args.widths.now c.args.heights.now c.args.x.now c.args.y.now c.requires.fact_1.0 c.loop-k.invariant c.loop-k-test.true c.turn_of-turn.result (told (goal.at.returns-then-wide-up_above c).After-turn_of-turn) c.wide-in-loop-k.ensures.0 c.if-wide-up_above.true (all_honoured c.args.body.now c.args.widths.now c.args.heights.now c.args.x.now c.args.y.now honours upward)
+pub returns-then-from-up_above : goal.returns-then-from-up_above
+returns-then-from-up_above c =
+    λ honours. broken_upward c.args.body.now c.args.widths.now c.args.heights.now c.args.x.now c.args.y.now c.requires.sizes.0 c.loop-k.invariant (omega arith) c.turn_of-turn.result (told (goal.at.returns-then-from-up_above c).After-turn_of-turn) (omega arith) c.if-from-up_above.true (all_honoured c.args.body.now c.args.widths.now c.args.heights.now c.args.x.now c.args.y.now honours upward)
 
 pub overflow_sub-runs_below : goal.overflow_sub-runs_below
 overflow_sub-runs_below c = omega (arith, fits (goal.at.overflow_sub-runs_below c).After-turn_of-turn)
@@ -39,16 +39,16 @@ overflow_sub-runs_above c = omega (arith, fits (goal.at.overflow_sub-runs_above 
 
 pub loop-k-preserved : goal.loop-k-preserved
 loop-k-preserved c =
-    let from = c.wide in
-    let up = c.wide-in-loop-k in
+    let from = c.from in
+    let up = c.from-in-loop-k in
     let x = c.chosen in
     let y = c.chosen-in-loop-k in
-    let right = c.further-right in
-    let top = c.further-top in
-    holding_next c.args.body.now c.args.widths.now c.args.heights.now c.args.x.now c.args.y.now c.requires.fact_1.0 c.loop-k.invariant c.loop-k-test.true c.turn_of-turn.result (told (goal.at.loop-k-preserved c).After-turn_of-turn)
-    from.result up.result x.result y.result right.result top.result from.ensures.0 up.ensures.0 c.if-wide-across_below.false c.if-wide-up_above.false
+    let right = c.max-right in
+    let top = c.max-top in
+    holding_next c.args.body.now c.args.widths.now c.args.heights.now c.args.x.now c.args.y.now c.requires.sizes.0 c.loop-k.invariant (omega arith) c.turn_of-turn.result (told (goal.at.loop-k-preserved c).After-turn_of-turn)
+    from.result up.result x.result y.result right.result top.result (omega arith) (omega arith) c.if-from-across_below.false c.if-from-up_above.false
     x.ensures y.ensures (omega (arith, right.ensures, c.end_of.ensures)) (omega (arith, top.ensures, c.end_of-in-loop-k.ensures))
 
 pub returns : goal.returns
 returns c =
-    honoured_all c.args.body.now c.args.widths.now c.args.heights.now c.args.x.now c.args.y.now (holding_end c.args.body.now c.args.widths.now c.args.heights.now c.args.x.now c.args.y.now c.requires.fact_1.0 c.loop-k.invariant c.loop-k-test.false)
+    honoured_all c.args.body.now c.args.widths.now c.args.heights.now c.args.x.now c.args.y.now (holding_end c.args.body.now c.args.widths.now c.args.heights.now c.args.x.now c.args.y.now c.requires.sizes.0 c.loop-k.invariant (omega (arith, c.requires.sizes.0.some)))

@@ -17,17 +17,17 @@ told e = subst (λ (u : Triple). Says u e.turn_of-turn.result) (ap triple_of e.g
 
 fits : (e : After-turn_of-turn) → TurnFits e.loop-k.runs_below e.loop-k.runs_above e.turn_of-turn.result
 fits e =
-    lowering_fits e.args.body.now e.args.widths.now e.args.heights.now e.requires.fact_1.0 e.args.x.now e.args.y.now e.requires.fact_2.0 e.requires.fact_2.1
-    e.loop-k.invariant e.loop-k-test.true e.turn_of-turn.result (told e)
+    lowering_fits e.args.body.now e.args.widths.now e.args.heights.now e.requires.sizes.0 e.args.x.now e.args.y.now e.requires.places.0 e.requires.places.1
+    e.loop-k.invariant (omega arith) e.turn_of-turn.result (told e)
 
 pub loop-k-init : goal.loop-k-init
-loop-k-init c = lowering_first c.args.body.now c.args.widths.now c.args.heights.now c.requires.fact_1.0 c.args.x.now c.args.y.now c.requires.fact_2.0 c.requires.fact_2.1 c.length_of-right.ensures.0 c.length_of-top.ensures.0
+loop-k-init c = lowering_first c.args.body.now c.args.widths.now c.args.heights.now c.requires.sizes.0 c.args.x.now c.args.y.now c.requires.places.0 c.requires.places.1 (omega arith) (omega arith)
 
 pub overflow_add-left : goal.overflow_add-left
-overflow_add-left c = omega (arith, c.length_of.ensures.1, left_small c.args.body.now c.args.widths.now c.args.heights.now c.requires.fact_1.0 c.args.x.now c.args.y.now c.requires.fact_2.0 c.requires.fact_2.1 c.loop-k.invariant c.loop-k-test.true c.turn_of-turn.result (told (goal.at.overflow_add-left c).After-turn_of-turn) (λ i. omega (arith, c.type_inv.widths i)) (λ i. omega (arith, c.type_inv.heights i)))
+overflow_add-left c = omega (arith, left_small c.args.body.now c.args.widths.now c.args.heights.now c.requires.sizes.0 c.args.x.now c.args.y.now c.requires.places.0 c.requires.places.1 c.loop-k.invariant (omega arith) c.turn_of-turn.result (told (goal.at.overflow_add-left c).After-turn_of-turn) (λ i. omega (arith, c.type_inv.widths i)) (λ i. omega (arith, c.type_inv.heights i)))
 
 pub overflow_add-bottom : goal.overflow_add-bottom
-overflow_add-bottom c = omega (arith, c.length_of-in-loop-k.ensures.1, bottom_small c.args.body.now c.args.widths.now c.args.heights.now c.requires.fact_1.0 c.args.x.now c.args.y.now c.requires.fact_2.0 c.requires.fact_2.1 c.loop-k.invariant c.loop-k-test.true c.turn_of-turn.result (told (goal.at.overflow_add-bottom c).After-turn_of-turn) (λ i. omega (arith, c.type_inv.widths i)) (λ i. omega (arith, c.type_inv.heights i)))
+overflow_add-bottom c = omega (arith, bottom_small c.args.body.now c.args.widths.now c.args.heights.now c.requires.sizes.0 c.args.x.now c.args.y.now c.requires.places.0 c.requires.places.1 c.loop-k.invariant (omega arith) c.turn_of-turn.result (told (goal.at.overflow_add-bottom c).After-turn_of-turn) (λ i. omega (arith, c.type_inv.widths i)) (λ i. omega (arith, c.type_inv.heights i)))
 
 pub overflow_sub-runs_below : goal.overflow_sub-runs_below
 overflow_sub-runs_below c = omega (arith, fits (goal.at.overflow_sub-runs_below c).After-turn_of-turn)
@@ -39,14 +39,14 @@ pub loop-k-preserved : goal.loop-k-preserved
 loop-k-preserved c =
     let x = c.chosen in
     let y = c.chosen-in-loop-k in
-    let right = c.larger-right in
-    let top = c.larger-top in
-    lowering_next c.args.body.now c.args.widths.now c.args.heights.now c.requires.fact_1.0 c.args.x.now c.args.y.now c.requires.fact_2.0 c.requires.fact_2.1
-    c.loop-k.invariant c.loop-k-test.true c.turn_of-turn.result (told (goal.at.loop-k-preserved c).After-turn_of-turn) x.result y.result right.result top.result x.ensures y.ensures
-    (omega (arith, right.ensures, c.length_of.ensures.0)) (omega (arith, top.ensures, c.length_of-in-loop-k.ensures.0))
+    let right = c.max-right in
+    let top = c.max-top in
+    lowering_next c.args.body.now c.args.widths.now c.args.heights.now c.requires.sizes.0 c.args.x.now c.args.y.now c.requires.places.0 c.requires.places.1
+    c.loop-k.invariant (omega arith) c.turn_of-turn.result (told (goal.at.loop-k-preserved c).After-turn_of-turn) x.result y.result right.result top.result x.ensures y.ensures
+    (omega (arith, right.ensures)) (omega (arith, top.ensures))
 
 pub returns : goal.returns
 returns c =
-    let (across, upward) = lowering_end c.args.body.now c.args.widths.now c.args.heights.now c.requires.fact_1.0 c.args.x.now c.args.y.now
-    c.requires.fact_2.0 c.requires.fact_2.1 c.loop-k.invariant c.loop-k-test.false in
+    let (across, upward) = lowering_end c.args.body.now c.args.widths.now c.args.heights.now c.requires.sizes.0 c.args.x.now c.args.y.now
+    c.requires.places.0 c.requires.places.1 c.loop-k.invariant (omega (arith, c.requires.sizes.0.some)) in
     record { across = across; upward = upward }
