@@ -20,11 +20,9 @@ use Rattle.sizes.specs.Direction.{Direction, across, upward}
 use Rattle.sizes.specs.Lowest.{start_at, needed_length}
 use Rattle.sizes.specs.Lists.{EachWay, each_way_lem, number_at, lowest_corners, slack_of, HonoursAll}
 use Rattle.sizes.specs.Sized.{lengths_of, Sized, Unsized, unsized_as, sized_as}
-use Rattle.sizes.specs.Answer.{corners_answer, slack_answer, placing_answer}
+use Rattle.std.specs.Prelude.{Ok, Err}
+use Rattle.sizes.specs.Answer.{slack_each_way, corners_answer, slack_answer, placing_answer}
 use Rattle.sizes.specs.Demand1.{OtherSizes, refused, short, placed, no_slack, slack_is, no_placing, broken, accepted, demand1_corners_answer, demand1_slack_answer, demand1_placing_answer}
-use Rattle.sizes.specs.declared.CornersAnswer.TheVariants as corners
-use Rattle.sizes.specs.declared.SlackAnswer.TheVariants as slack
-use Rattle.sizes.specs.declared.PlacingAnswer.TheVariants as placing
 use Rattle.packing.specs.Admitted.{OtherLengths, Admitted}
 use Rattle.judging.specs.Walkable.{labels_in, Walkable, readable_has_bytes, readable_walkable, labels_in_body}
 use Rattle.placing.specs.Along.{LowestFor}
@@ -82,11 +80,11 @@ module _ (bytes : List ℕ) (sizes : EachWay (List ℕ)) where
   once = ⊎_elim (λ p. p) (λ p. p)
 
   pub corners_refused : (places : EachWay ℕ) (refusal : Refusal) → Unsized bytes Twice sizes refusal
-      → corners.Refused refusal ≡ corners_answer bytes sizes places
+      → Err refusal ≡ corners_answer bytes sizes places
   corners_refused places refusal cause = demand1_corners_answer bytes sizes places (refused (unsized_as once inl cause))
 
   pub slack_refused : (outline : EachWay ℕ) (refusal : Refusal) → Unsized bytes Twice sizes refusal
-      → slack.Refused refusal ≡ slack_answer bytes sizes outline
+      → Err refusal ≡ slack_answer bytes sizes outline
   slack_refused outline refusal cause = demand1_slack_answer bytes sizes outline (no_slack (unsized_as once inl cause))
 
   module _ {n : ℕ} (a : Admitted bytes n sizes (lengths_of sizes)) where
@@ -94,32 +92,32 @@ module _ (bytes : List ℕ) (sizes : EachWay (List ℕ)) where
     all = sized_as once inl a.sized
 
     pub corners_short : (places : EachWay ℕ) (way : Direction) → places way < n
-        → corners.Refused refusal.ShortOutput ≡ corners_answer bytes sizes places
+        → Err refusal.ShortOutput ≡ corners_answer bytes sizes places
     corners_short places way h =
         demand1_corners_answer bytes sizes places (short all (way, subst (λ (m : ℕ). places way < m) a.kind h))
 
     pub corners_placed : (places : EachWay ℕ) → n ≤ places across → n ≤ places upward
-        → corners.Placed n ≡ corners_answer bytes sizes places
+        → Ok n ≡ corners_answer bytes sizes places
     corners_placed places h k =
-        ap corners.Placed a.kind ∙ demand1_corners_answer bytes sizes places (placed all (λ (way, p). long way p))
+        ap Ok a.kind ∙ demand1_corners_answer bytes sizes places (placed all (λ (way, p). long way p))
       where
         long : (way : Direction) → places way < kind_of bytes → ⊥
         long across p = omega (arith, a.kind)
         long upward p = omega (arith, a.kind)
 
     pub slack_answered : (outline : EachWay ℕ) {x y : ℤ} → x ≡ slack_of (labels_of bytes) across (sizes across) (outline across)
-        → y ≡ slack_of (labels_of bytes) upward (sizes upward) (outline upward) → slack.Slack x y ≡ slack_answer bytes sizes outline
+        → y ≡ slack_of (labels_of bytes) upward (sizes upward) (outline upward) → slack_each_way x y ≡ slack_answer bytes sizes outline
     slack_answered outline p q = demand1_slack_answer bytes sizes outline (slack_is all p q)
 
 -- ---- the answers for a placing
 module _ (bytes : List ℕ) (sizes corners : EachWay (List ℕ)) where
   pub placing_refused : (refusal : Refusal) → Unsized bytes (OtherLengths (kind_of bytes) (lengths_of sizes) (lengths_of corners)) sizes refusal
-      → placing.Refused refusal ≡ placing_answer bytes sizes corners
+      → Err refusal ≡ placing_answer bytes sizes corners
   placing_refused refusal cause = demand1_placing_answer bytes sizes corners (no_placing cause)
 
   module _ {n : ℕ} (a : Admitted bytes n sizes (lengths_of corners)) where
-    pub placing_broken : ¬ HonoursAll (labels_of bytes) sizes corners → placing.Refused refusal.BrokenRelation ≡ placing_answer bytes sizes corners
+    pub placing_broken : ¬ HonoursAll (labels_of bytes) sizes corners → Err refusal.BrokenRelation ≡ placing_answer bytes sizes corners
     placing_broken h = demand1_placing_answer bytes sizes corners (broken a.sized h)
 
-    pub placing_accepted : HonoursAll (labels_of bytes) sizes corners → placing.Accepted ≡ placing_answer bytes sizes corners
+    pub placing_accepted : HonoursAll (labels_of bytes) sizes corners → Ok tt ≡ placing_answer bytes sizes corners
     placing_accepted h = demand1_placing_answer bytes sizes corners (accepted a.sized h)

@@ -8,9 +8,8 @@ ghost use Rattle.sizes.specs.Sized.{OtherLength, ZeroSize};
 ghost use Rattle.sizes.specs.Answer.{LowestCorners, Few, slack_answer, placing_answer};
 ghost use Rattle.packing.specs.Admitted.{Admits};
 
-use judging::{Checked, Judged};
 use record::Refusal;
-use sizes::{CornersAnswer, PlacingAnswer, SlackAnswer};
+use sizes::Slack;
 
 // ---- what is refused
 
@@ -39,25 +38,21 @@ fn admit(
     heights: &[u16],
     x_length: usize,
     y_length: usize,
-) -> Checked
+) -> Result<usize, Refusal>
     ensures { Admits result «record».now (each_way widths.now heights.now)
         (each_way x_length y_length) }
 {
-    match judging::judge(record) {
-        Judged::Refused(refusal) => Checked::Refused(refusal),
-        Judged::Accepted(n, _) => {
-            if other_length(n, widths.len(), heights.len()) {
-                return Checked::Refused(Refusal::OtherLength);
-            }
-            if other_length(n, x_length, y_length) {
-                return Checked::Refused(Refusal::OtherLength);
-            }
-            if zero_size(widths, heights) {
-                return Checked::Refused(Refusal::ZeroSize);
-            }
-            Checked::Passed(n)
-        }
+    let n = judging::judge(record)?.rooms;
+    if other_length(n, widths.len(), heights.len()) {
+        return Err(Refusal::OtherLength);
     }
+    if other_length(n, x_length, y_length) {
+        return Err(Refusal::OtherLength);
+    }
+    if zero_size(widths, heights) {
+        return Err(Refusal::ZeroSize);
+    }
+    Ok(n)
 }
 
 // ---- the three calls
@@ -69,31 +64,27 @@ pub fn lowest_corners(
     heights: &[u16],
     x: &mut [u32],
     y: &mut [u32],
-) -> CornersAnswer
+) -> Result<usize, Refusal>
     ensures lowest_corners { LowestCorners «record».now (each_way widths.now heights.now)
         (each_way x.old y.old) result (each_way x.new y.new) }
     ensures few { Few result }
 {
-    match admit(record, widths, heights, widths.len(), heights.len()) {
-        Checked::Refused(refusal) => CornersAnswer::Refused(refusal),
-        Checked::Passed(n) => {
-            if x.len() < n {
-                return CornersAnswer::Refused(Refusal::ShortOutput);
-            }
-            if y.len() < n {
-                return CornersAnswer::Refused(Refusal::ShortOutput);
-            }
-            placing::lowest(&record[1..], widths, heights, x, y);
-            CornersAnswer::Placed(n)
-        }
+    let n = admit(record, widths, heights, widths.len(), heights.len())?;
+    if x.len() < n {
+        return Err(Refusal::ShortOutput);
     }
+    if y.len() < n {
+        return Err(Refusal::ShortOutput);
+    }
+    placing::lowest(&record[1..], widths, heights, x, y);
+    Ok(n)
 }
 
 // An outline less the needed length.
 fn less(outline: u32, needed: u32) -> i64
     ensures { result ≡ pos outline -ℤ pos needed }
 {
-    outline as i64 - needed as i64
+    i64::from(outline) - i64::from(needed)
 }
 
 // The slack each way of an outline, which may be negative; or the refusal.
@@ -103,22 +94,18 @@ pub fn slack(
     heights: &[u16],
     outline_width: u32,
     outline_height: u32,
-) -> SlackAnswer
+) -> Result<Slack, Refusal>
     ensures { result ≡ slack_answer «record».now (each_way widths.now heights.now)
         (each_way outline_width outline_height) }
 {
-    match admit(record, widths, heights, widths.len(), heights.len()) {
-        Checked::Refused(refusal) => SlackAnswer::Refused(refusal),
-        Checked::Passed(_) => {
-            let mut x = [0u32; 255];
-            let mut y = [0u32; 255];
-            let needed = placing::lowest(&record[1..], widths, heights, &mut x, &mut y);
-            SlackAnswer::Slack(
-                less(outline_width, needed.across),
-                less(outline_height, needed.up),
-            )
-        }
-    }
+    admit(record, widths, heights, widths.len(), heights.len())?;
+    let mut x = [0u32; 255];
+    let mut y = [0u32; 255];
+    let needed = placing::lowest(&record[1..], widths, heights, &mut x, &mut y);
+    Ok(Slack {
+        across: less(outline_width, needed.across),
+        up: less(outline_height, needed.up),
+    })
 }
 
 // Whether a placing, the lower-left corners of the rooms by position, honours all left and below relations; or the refusal.
@@ -128,17 +115,13 @@ pub fn placing_in(
     heights: &[u16],
     x: &[u32],
     y: &[u32],
-) -> PlacingAnswer
+) -> Result<(), Refusal>
     ensures { result ≡ placing_answer «record».now (each_way widths.now heights.now)
         (each_way x.now y.now) }
 {
-    match admit(record, widths, heights, x.len(), y.len()) {
-        Checked::Refused(refusal) => PlacingAnswer::Refused(refusal),
-        Checked::Passed(_) => {
-            if holding::keeps(&record[1..], widths, heights, x, y) {
-                return PlacingAnswer::Accepted;
-            }
-            PlacingAnswer::Refused(Refusal::BrokenRelation)
-        }
+    admit(record, widths, heights, x.len(), y.len())?;
+    if !holding::keeps(&record[1..], widths, heights, x, y) {
+        return Err(Refusal::BrokenRelation);
     }
+    Ok(())
 }
