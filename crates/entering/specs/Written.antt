@@ -48,14 +48,13 @@ module _ (rooms : List Room) (accepted : AcceptedRooms rooms) where
 
   -- the label list, of labels that stand at the front of a slice and the rooms by position
   pub listed_from : {n : ℕ} {by before labels others positions : List ℕ} → Numbered rooms n by before labels others positions
-      → n ≡ length rooms → n ≤ length labels → n ≤ length by → LabelsInOrder rooms n labels by
-  listed_from {n} {before = before} g many places by_places = record {
+      → n ≡ length rooms → length by ≡ n → n ≤ length labels → LabelsInOrder rooms labels by
+  listed_from {n} {by} {before} g many size places = record {
     accepted = accepted;
-    count = sym many;
-    labels_places = places;
-    by_places = by_places;
-    labels_are = λ i h. ap (λ (xs : List ℕ). get_or xs i 0) g.labels_are ∙ at i h;
-    by_position = g.by_position;
+    count = sym (size ∙ many);
+    labels_places = omega arith;
+    labels_are = λ i h. ap (λ (xs : List ℕ). get_or xs i 0) g.labels_are ∙ at i (omega arith);
+    by_position = rw size g.by_position;
   }
     where
       at : (i : ℕ) → i < n → get_or (filled (label_of rooms) n before) i 0 ≡ label_of rooms i

@@ -51,7 +51,7 @@ impl CopiedRooms {
 // The record of an accepted room list, whose corners are paired, the label and the position of each room, and the names by position; or 15,
 // and the slices as they were. Once all four are long enough nothing can be refused any more, since the label list of an accepted list is
 // Baxter: so labels, positions and names are put where they belong at once, and Labels in writes the record. `by` is for the rooms by
-// position, and `list` for the rooms by label and then for the label list.
+// position, and `list` for the rooms by label and then for the label list. The four slices are what C hands over.
 fn write(
     lists: &CornerLists,
     name: &[u16],
@@ -67,7 +67,7 @@ fn write(
     requires paired_plan { PairedPlan lists.now there.now back.now }
     requires all_named { length name.now ≡ count_of lists.now }
     requires no_name_twice { ¬ Twice (λ i. get_or name.now i 0) (length name.now) }
-    requires places { (count_of lists.now ≤ length by.old) × (count_of lists.now ≤ length list.old) }
+    requires places { (length by.old ≡ count_of lists.now) × (length list.old ≡ count_of lists.now) }
     ensures { RoomsIn (named_in lists.now name.now)
         (slices «record».old labels.old positions.old names.old) result
         (slices «record».new labels.new positions.new names.new) }
@@ -80,9 +80,9 @@ fn write(
         return Err(Refusal::ShortOutput);
     }
     orders::labels_and_positions(lists, there, back, by, list, labels, positions);
-    naming::by_position(name, by, n, names);
-    orders::label_list(labels, by, n, list);
-    labels::labels_in(&list[..n], record)
+    naming::by_position(name, by, names);
+    orders::label_list(labels, by, list);
+    labels::labels_in(list, record)
 }
 
 // Rooms in, on 1 to 255 rooms that were copied, with arrays for so many rooms and for the pairs of so many corners: the causes in their
@@ -110,7 +110,7 @@ pub fn decide<const ROOMS: usize, const CORNERS: usize>(
     };
     let name = &copied.name[..n];
     let mut there = [0u16; CORNERS];
-    let mut back = [512u16; CORNERS];
+    let mut back = [points::UNPAIRED; CORNERS];
     checks::judge(&lists, &mut there, &mut back)?;
     if naming::twice(name) {
         return Err(Refusal::NameTwice);
@@ -118,6 +118,15 @@ pub fn decide<const ROOMS: usize, const CORNERS: usize>(
     let mut by = [0u8; ROOMS];
     let mut list = [0u8; ROOMS];
     write(
-        &lists, name, &there, &back, &mut by, &mut list, record, labels, positions, names,
+        &lists,
+        name,
+        &there,
+        &back,
+        &mut by[..n],
+        &mut list[..n],
+        record,
+        labels,
+        positions,
+        names,
     )
 }

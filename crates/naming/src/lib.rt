@@ -103,13 +103,13 @@ pub fn twice(names: &[u16]) -> bool
 
 // ---- names by position
 
-// The names of `n` rooms by position, from the front of a slice, from the names in list order and the rooms' places by position.
-pub fn by_position(names: &[u16], by: &[u8], n: usize, list: &mut [u16])
-    requires n_in_bounds { (n ≤ length names.now) × (n ≤ length by.now) × (n ≤ length list.old) }
-    requires rooms_in_bounds { (k : ℕ) → k < n → get_or by.now k 0 < n }
-    ensures { list.new ≡ filled (λ k. get_or names.now (get_or by.now k 0) 0) n list.old }
+// The names of the rooms by position, from the front of a slice, from the names in list order and the rooms' places by position.
+pub fn by_position(names: &[u16], by: &[u8], list: &mut [u16])
+    requires list_places { length by.now ≤ length list.old }
+    requires rooms_in_bounds { (k : ℕ) → k < length by.now → get_or by.now k 0 < length names.now }
+    ensures { list.new ≡ filled (λ k. get_or names.now (get_or by.now k 0) 0) (length by.now) list.old }
 {
-    for k in 0..n {
-        list[k] = names[usize::from(by[k])];
+    for (k, &room) in by.iter().enumerate() {
+        list[k] = names[usize::from(room)];
     }
 }

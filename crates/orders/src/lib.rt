@@ -18,7 +18,8 @@ use rooms::CornerLists;
 
 // Where each link leads, and whether the walk stops there. From room c the walk goes on along a line at 2c, to the room under c or beside
 // it, and at 2c + 1 it has come to the line's end, c itself, which comes next; from there it goes on at c's upper-right corner. A link
-// down to room d goes on at d where a room is under d, and a link aside where a room is beside d.
+// down to room d goes on at d where a room is under d, and a link aside where a room is beside d. The links after the first `count` are
+// those of the outline's corners; some of the first lead to them, but the walk does not go by them.
 fn turn(links: &[u16], count: usize, turned: &mut [u16])
     requires links_within { LinksWithin count links.now }
     requires places { count ≤ length turned.old }
@@ -122,14 +123,14 @@ fn both_orders(
 
 // ---- positions and labels
 
-// The rank of each of the `n` rooms, at its place in the list, from the rooms in their order.
-fn rank_all(by: &[u8], n: usize, ranks: &mut [u8])
-    requires ranked { (f : ℕ → ℕ) × Ranking n by.now f }
-    requires places { (n ≤ 255) × (n ≤ length ranks.old) }
-    ensures { (f : ℕ → ℕ) → Ranking n by.now f → ranks.new ≡ filled f n ranks.old }
+// The rank of each room, at its place in the list, from the rooms in their order.
+fn rank_all(by: &[u8], ranks: &mut [u8])
+    requires ranked { (f : ℕ → ℕ) × Ranking by.now f }
+    requires places { (length by.now ≤ 255) × (length by.now ≤ length ranks.old) }
+    ensures { (f : ℕ → ℕ) → Ranking by.now f → ranks.new ≡ filled f (length by.now) ranks.old }
 {
-    for k in 0..n {
-        ranks[usize::from(by[k])] = (k + 1) as u8;
+    for (k, &room) in by.iter().enumerate() {
+        ranks[usize::from(room)] = (k + 1) as u8;
     }
 }
 
@@ -151,20 +152,21 @@ pub fn labels_and_positions(
         positions.old positions.new }
 {
     both_orders(lists, there, back, by_position, by_label);
-    rank_all(by_label, lists.len(), labels);
-    rank_all(by_position, lists.len(), positions);
+    let n = lists.len();
+    rank_all(&by_label[..n], labels);
+    rank_all(&by_position[..n], positions);
 }
 
 // ---- the label list
 
-// The labels by position, from the labels of the `n` rooms, which stand at the rooms' places, and the rooms by position.
-pub fn label_list(labels: &[u8], by: &[u8], n: usize, list: &mut [u8])
-    requires labels_in_order { (rooms : List Room) × LabelsInOrder rooms n labels.now by.now }
-    requires n_in_bounds { n ≤ length list.old }
-    ensures { (rooms : List Room) → LabelsInOrder rooms n labels.now by.now
-        → take n list.new ≡ label_list rooms }
+// The labels by position, from the labels of the rooms, which stand at the rooms' places, and the rooms by position.
+pub fn label_list(labels: &[u8], by: &[u8], list: &mut [u8])
+    requires labels_in_order { (rooms : List Room) × LabelsInOrder rooms labels.now by.now }
+    requires places { length by.now ≤ length list.old }
+    ensures { (rooms : List Room) → LabelsInOrder rooms labels.now by.now
+        → take (length by.now) list.new ≡ label_list rooms }
 {
-    for k in 0..n {
-        list[k] = labels[usize::from(by[k])];
+    for (k, &room) in by.iter().enumerate() {
+        list[k] = labels[usize::from(room)];
     }
 }

@@ -6,5 +6,5 @@ use Rattle.orders.proofs.label_list.Goals as goal
 pub returns : goal.returns
 returns c =
     let f = c.loop-k.invariant in
-    λ rooms g. labels_listed g c.loop-k.list (omega (arith, f.size, c.requires.n_in_bounds))
+    λ rooms g. labels_listed g c.loop-k.list (omega (arith, f.size, c.requires.places))
     (λ q h. f.done q (omega arith) (omega (arith, c.loop-k-test.false)))
