@@ -49,13 +49,15 @@ fn set_triple(record: &mut [u8], m: usize, i: usize, triple: u8)
 // three bytes, and the turns go in eights: the compiler writes the eight out, and knows the place of each triple in its bytes.
 pub fn encode(labels: &[u8], record: &mut [u8]) -> bool
     requires count { (1 ≤ length labels.now) × (length labels.now ≤ 255) }
-    requires inside { (LabelOutside labels.now → ⊥) }
+    requires inside { ¬ LabelOutside labels.now }
     requires zero { «record».old ≡ replicate 97 0 }
     ensures { Encoded result labels.now «record».new }
 {
     let n = labels.len();
     record[0] = n as u8;
     let mut seen = [0u8; 32];
+    // Each stack is an array with a count of its own: with the count in one struct with the array, which is indexed, a turn would wait for the
+    // count in memory. So tried, the pass took a fifth longer.
     let mut below = [Label(0); 255];
     let mut above = [Label(255); 255];
     let mut runs_below = 0;

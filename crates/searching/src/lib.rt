@@ -46,7 +46,7 @@ fn list_places(labels: &[u8], places: &mut [u8; 257]) -> Result<(), Refusal>
     Ok(())
 }
 
-// The label next above a label, or where `above` is false next below it.
+// The label next above a label, or where `above` is false next below it. Here and below a side is a bool, as comparing two labels gives it.
 fn next_to(label: usize, above: bool) -> usize
     requires { (1 ≤ label) × (label ≤ 255) }
     ensures { NextTo above label result × (result < 257) }
