@@ -56,14 +56,15 @@ pub fn encode(labels: &[u8], record: &mut [u8]) -> bool
     let n = labels.len();
     record[0] = n as u8;
     let mut seen = [0u8; 32];
-    // Each stack is an array with a count of its own: with the count in one struct with the array, which is indexed, a turn would wait for the
-    // count in memory. So tried, the pass took a fifth longer.
+    // Each stack is an array, with its count beside it: in a struct with the array, which is indexed, a turn waits for the count in
+    // memory. So tried, the pass took a fifth longer.
     let mut below = [Label(0); 255];
     let mut above = [Label(255); 255];
     let mut runs_below = 0;
     let mut runs_above = 0;
     let mut last = Label(labels[0]);
     marks::mark(&mut seen, last.0);
+    // So many eights have the n - 1 triples.
     for m in 0..(n + 6) / 8 {
         for i in 0..8 {
             let next = 8 * m + i + 1;

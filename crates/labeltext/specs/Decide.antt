@@ -24,6 +24,7 @@ unfolding run dec_done dec_le line_length
 dec_keeps_form text = go (dec_le (length text) 4096) (dec_done (run start (line_of text)))
   where
     go : Dec (length text ≤ 4096) → Dec (Done (run start (line_of text))) → Dec (KeepsForm text)
-    go (yes short) (yes done) = yes (record { short = short; numbers = numbers_of (run start (line_of text)); lists = read_lists text done })
+    go (yes short) (yes done) =
+        yes (record { short = short; numbers = numbers_of (run start (line_of text)); lists = read_lists text done })
     go (yes short) (no left) = no (λ k. left (lists_done k.lists))
     go (no long) done = no (λ k. long k.short)

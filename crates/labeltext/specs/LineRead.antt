@@ -101,7 +101,8 @@ run_after : {front line numbers : List ℕ} {number : ℕ} {s : State} → Withi
 run_after w (form.last k) = run_last w k
 run_after {front} {number = number} {s} w (form.next {between} {word} {line} {numbers} {number = other} b n a) =
     subst (λ (l : List ℕ). Read l (run s (between ++ (word ++ line)))) (append_assoc front (number ∷ []) (other ∷ numbers))
-    (subst (Read _) (sym (run_append s between _ ∙ run_append (run s between) word line)) (run_after {front = front ++ (number ∷ [])} (run_number (run_between w b) n) a))
+    (subst (Read _) (sym (run_append s between _ ∙ run_append (run s between) word line))
+    (run_after {front = front ++ (number ∷ [])} (run_number (run_between w b) n) a))
 
 pub line_read : {line numbers : List ℕ} → Line line numbers → Read numbers (run start line)
 line_read (form.none k) = subst (Read []) (sym (run_spaces at_start k)) (record { done = tt; numbers_are = refl })

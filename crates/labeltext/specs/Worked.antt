@@ -33,7 +33,8 @@ answers (text ∷ texts) = answer text ∷ answers texts
 -- leading zeros, commas and spaces go; a tidy text stays
 pub worked_tidied : answers (" 4,1 , 03  5 002 \n" ∷ "4 1 3 5 2\n" ∷ "1" ∷ [])
     ≡ tidied (ascii "4 1 3 5 2\n") ∷ tidied (ascii "4 1 3 5 2\n") ∷ tidied (ascii "1\n") ∷ []
-unfolding tidy_rest tidy_line labels_in dec_keeps_form dec_done run symbol_of line_length digits_in decimal dec-¬ dec_count dec_outside dec_twice dec_barred
+unfolding tidy_rest tidy_line labels_in dec_keeps_form dec_done run symbol_of line_length
+    digits_in decimal dec-¬ dec_count dec_outside dec_twice dec_barred
 worked_tidied = refl
 
 -- nothing but spaces keeps the form, and so do 000 and numbers above n
