@@ -7,8 +7,7 @@ use drawing::Corners;
 use record::Refusal;
 
 // Reads a record where there are `places` for its rooms: how many rooms it has, the labels by position, from the front of their slice,
-// and the corners of the rooms; or the refusal, and the labels' slice as it was. A record has at most 255 rooms, so of the places no
-// more count.
+// and the corners of the rooms; or the refusal, and the labels' slice as it was.
 pub fn read_corners(
     record: &[u8],
     labels: &mut [u8],
@@ -17,8 +16,8 @@ pub fn read_corners(
 ) -> Result<usize, Refusal>
     ensures { CornersIn «record».now labels.old places result labels.new corners.new }
 {
-    let fit = labels.len().min(places).min(255);
-    let n = reading::read(record, 0, fit, labels, corners)?;
+    let fit = labels.len().min(places);
+    let n = reading::read(record, 0, &mut labels[..fit], corners)?;
     if fit < n {
         return Err(Refusal::ShortOutput);
     }

@@ -1,6 +1,6 @@
 -- What reading a record answers and leaves: the first refusal of "9, 10, 11, 14, 12, 13" whose cause the record has, else how many
 -- labels it gives, and what is noted of each.
-use Rattle.std.specs.Prelude.{List, ◌≡◌, ℕ, ◌≤◌, ◌<◌, Result, Ok, Err}
+use Rattle.std.specs.Prelude.{List, ◌≡◌, ℕ, ◌≤◌, ◌<◌, length, Result, Ok, Err}
 use Rattle.record.specs.Triple.{Triple}
 use Rattle.record.specs.Way.{up, down}
 use Rattle.record.specs.Record.{triple_in}
@@ -36,18 +36,17 @@ Reads (Err refusal) bytes notes corners = Unit
 abbrev pub Left : (labels₀ : List ℕ) → (corners₀ : Corners) → (labels : List ℕ) → (corners : Corners) → Type 0
 Left labels₀ corners₀ labels corners = (labels ≡ labels₀) × (corners.right ≡ corners₀.right) × (corners.top ≡ corners₀.top)
 
--- what is left of the record by a call that has so many places for its labels, and asks for them, the rights and the tops from an
--- earliest index on
-pub record Given (bytes : List ℕ) (n earliest places : ℕ) (labels₀ : List ℕ) (corners₀ : Corners) (labels : List ℕ) (corners : Corners) : Type 0 where
+-- what is left of the record by a call with a slice for its labels, that asks for them, the rights and the tops from an earliest index on
+pub record Given (bytes : List ℕ) (n earliest : ℕ) (labels₀ : List ℕ) (corners₀ : Corners) (labels : List ℕ) (corners : Corners) : Type 0 where
   pub kind : n ≡ kind_of bytes
   pub some : 1 ≤ n
   pub few : n ≤ 255
   pub readable : Readable bytes
   pub lefts : Starts down (triples_of bytes) n corners.left
   pub bottoms : Starts up (triples_of bytes) n corners.bottom
-  pub long : n ≤ places → earliest < n → Written (triples_of bytes) n earliest labels₀ corners₀ labels corners
-  pub short : places < n → Left labels₀ corners₀ labels corners
+  pub long : n ≤ length labels₀ → earliest < n → Written (triples_of bytes) n earliest labels₀ corners₀ labels corners
+  pub short : length labels₀ < n → Left labels₀ corners₀ labels corners
 
-abbrev pub Leaves : Result ℕ Refusal → (bytes : List ℕ) (earliest places : ℕ) (labels₀ : List ℕ) (corners₀ : Corners) (labels : List ℕ) (corners : Corners) → Type 0
-Leaves (Ok n) bytes earliest places labels₀ corners₀ labels corners = Given bytes n earliest places labels₀ corners₀ labels corners
-Leaves (Err refusal) bytes earliest places labels₀ corners₀ labels corners = Left labels₀ corners₀ labels corners
+abbrev pub Leaves : Result ℕ Refusal → (bytes : List ℕ) (earliest : ℕ) (labels₀ : List ℕ) (corners₀ : Corners) (labels : List ℕ) (corners : Corners) → Type 0
+Leaves (Ok n) bytes earliest labels₀ corners₀ labels corners = Given bytes n earliest labels₀ corners₀ labels corners
+Leaves (Err refusal) bytes earliest labels₀ corners₀ labels corners = Left labels₀ corners₀ labels corners

@@ -40,22 +40,20 @@ fn finish(
 }
 
 // Reading a record: the first refusal of the order whose cause it has; else how many labels it has, and of each room left and
-// bottom. From index `earliest` on the labels, rights and tops are written too, where there are `places` for all of the record's
+// bottom. From index `earliest` on the labels, rights and tops are written too, where the slice has places for all of the record's
 // labels; else they are left as they were.
 pub fn read(
     record: &[u8],
     earliest: usize,
-    places: usize,
     labels: &mut [u8],
     corners: &mut Corners,
 ) -> Result<usize, Refusal>
-    requires { places ≤ length labels.old }
     ensures answer { result ≡ reading_of «record».now }
-    ensures leaves { Leaves result «record».now earliest places labels.old corners.old labels.new corners.new }
+    ensures leaves { Leaves result «record».now earliest labels.old corners.old labels.new corners.new }
 {
     let mut notes = Notes::NONE;
     let n = check(record, &mut notes, corners)?;
-    if n <= places && earliest < n {
+    if n <= labels.len() && earliest < n {
         finish(record, n, earliest, &notes, labels, corners);
     }
     Ok(n)
