@@ -67,9 +67,6 @@ module _ {t : ℕ → Triple} {k tally : ℕ} (now : Packs t k tally) (more : k 
   abbrev y : ℕ
   y = 2 + q + falls_by u - bit (bits_of u up)
 
-  pub sum_fits : next < 4398046511104
-  sum_fits = omega (arith, now.packed, now.falls_few, row, small_up, small_down, once_risen u)
-
   fallen : falls t (suc (suc k)) ≡ falls t (suc k) + falls_by u
   fallen = omega (arith, falls_next t k, falls_third u)
 

@@ -23,19 +23,6 @@ pub record Searching (f : ℕ → ℕ) (cut : Cut) (s e lowest i end j start : �
   pub lines : (m : ℕ) → s < m → m < e → Parts f cut s m e → (end ≤ m) × (m ≤ start)
 
 module _ {f : ℕ → ℕ} {cut : Cut} {s e lowest : ℕ} where
-  pub search_begins : suc s < e → Searching f cut s e lowest s (s + 1) e (e - 1)
-  search_begins several = record {
-    from = omega arith;
-    some = omega arith;
-    upto = omega arith;
-    downto = omega arith;
-    more = omega arith;
-    until = omega arith;
-    first = λ k a b. absurd (omega arith);
-    last = λ k a b. absurd (omega arith);
-    lines = λ m a b line. (omega arith, omega arith);
-  }
-
   module _ (interval : Interval f s e lowest) {i end j start : ℕ} (c : Searching f cut s e lowest i end j start) where
     -- a room more from the left, and one more from the right
     pub search_goes_on : {next prior : ℕ} → end ≤ start → i < end → start < j → next ≡ max end (place_of cut s e lowest (f i) + 1)

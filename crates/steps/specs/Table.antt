@@ -64,13 +64,6 @@ pub once_risen : (t : Triple) → rises_by t + falls_by t ≡ 1
 once_risen (triple first second false) = refl
 once_risen (triple first second true) = refl
 
--- what the code was told of a triple is at most 1
-pub rises_small : {t : Triple} {turn : Turn} → Says t turn → turn.rises ≤ 1
-rises_small {t} s = omega (arith, s.rises_is, once_risen t)
-
-pub falls_small : {t : Triple} {turn : Turn} → Says t turn → turn.falls ≤ 1
-falls_small {t} s = omega (arith, s.falls_is, once_risen t)
-
 -- ---- the rows, with 2 added to both counts
 pub less_is : {x y p q : ℕ} → x ≡ suc (suc p) → y ≡ suc (suc q) → less x y ≡ counts p q
 unfolding less
