@@ -1,7 +1,7 @@
 -- Looking for a line from both ends of a block at once. From the left, `end` is past the place of each room that was looked at; from
 -- the right, `start` is at or before it; and a line can stand from `end` to `start` only.
 use Rattle.std.proofs.Common.{inl, inr, subst, arith}
-use Rattle.std.specs.Prelude.{◌≡◌, ℕ, suc, ◌+◌, ◌-◌, ◌≤◌, ◌<◌, min, max}
+use Rattle.std.specs.Prelude.{◌≡◌, ℕ, ◌+◌, ◌-◌, ◌≤◌, ◌<◌, min, max}
 use Rattle.finite.specs.Decide.{eq_or_ne}
 use Rattle.finite.specs.Search.{Each}
 use Rattle.slicing.specs.Cuts.{Parts}

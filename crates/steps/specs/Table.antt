@@ -1,6 +1,6 @@
 -- The table of the walk in one line: of the runs that the new label meets below it and above it, those that it is joined to count no more.
 -- Where it lies above the current run, that run is one more below it; where it lies below, one more above it.
-use Rattle.std.specs.Prelude.{true, false, List, ◌≡◌, refl, ℕ, zero, suc, ◌+◌, ◌≤◌, ◌<◌, get_or, set}
+use Rattle.std.specs.Prelude.{true, false, List, ◌≡◌, refl, ℕ, zero, suc, ◌+◌, ◌<◌, get_or, set}
 use Rattle.std.proofs.Common.{inl, inr, sym, ap, ap₂, ◌∙◌, arith, add-zero, length-set, get_or-set_same, get_or-set_other}
 use Rattle.finite.specs.Decide.{eq_or_ne}
 use Rattle.bits.specs.Bit.{bit}
@@ -9,9 +9,8 @@ use Rattle.record.specs.Walk.{Counts, missing, counts, step, and_then, walk}
 use Rattle.record.specs.Way.{up, down}
 use Rattle.record.specs.TripleNumber.{triple_of}
 use Rattle.record.specs.Decode.{bits_of}
-use Rattle.steps.specs.declared.Turn.{Turn}
 use Rattle.steps.specs.Passes.{Unpacked}
-use Rattle.steps.specs.Turn.{Says, rises_by, falls_by}
+use Rattle.steps.specs.Turn.{rises_by, falls_by}
 use Rattle.steps.specs.Counts.{less}
 
 -- one more triple is noted
