@@ -11,7 +11,8 @@ use text::{Plan, Text};
 // "at most 98 bytes": one more than the longest record has, so that a longer input is refused for its first 98 bytes already.
 const INPUT: usize = 98;
 
-// The whole text for a record: the listing of its plan, or why it is refused.
+// The whole text for a record: the listing of its plan, or why it is refused. plandraw has the same four lines over pictures: one
+// function for both, over a closure, would be no shorter, and each of the two states its own text.
 fn put_text(record: &[u8]) -> Text
     ensures { result.items ≡ text_of «record».now }
 {

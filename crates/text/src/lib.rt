@@ -82,6 +82,7 @@ impl Plan {
         let mut labels = [0; 255];
         let mut corners = Corners::NONE;
         let n = answers::read_corners(record, &mut labels, 255, &mut corners)?;
+        // `as`: it is proved to lose nothing, where try_from would bring an error that can't come.
         Ok(Plan {
             n: n as u8,
             labels,
