@@ -15,7 +15,7 @@ pub fn wide(byte: u8) -> usize
 }
 
 // What a triple says of the new label, each 1 or 0: it is joined to a run above it, to a run below it; it lies above the current
-// run, below it.
+// run, below it. They are numbers, since the walks add them to their counts.
 #[derive(Clone, Copy)]
 pub struct Turn {
     pub above: usize,
