@@ -196,13 +196,6 @@ module _ {line : List ℕ} {i place count : ℕ} {starts : List ℕ} (p : Passin
         taken : (k : ℕ) → k < length (take count starts) → get_or (take count starts) k 0 ≡ get_or starts k 0
         taken k h = get_or-take count starts k 0 (omega (arith, size))
 
-        pub passing_starts : length line ≤ 4096 → Starts line (take count starts)
-        passing_starts short = record {
-          short = short;
-          few = omega (arith, size);
-          within = λ k h. omega (arith, taken k h, begun.inside k (omega (arith, size)), p.within);
-        }
-
         pub passing_listed : {list : List ℕ} → Labelled line (take count starts) list → ListedAs count line list
         passing_listed l = record {
           done = passing_done;

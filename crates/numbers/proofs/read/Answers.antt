@@ -8,7 +8,7 @@ use lib.ListN.{length, set, drop}
 use Rattle.std.specs.Prelude.{Err}
 use Rattle.numbers.specs.Places.{Reached}
 use Rattle.numbers.specs.Store.{many}
-use Rattle.numbers.proofs.Passing.{Passing, passing_none, passing_turn, passing_standing, passing_refused, passing_many, passing_starts, passing_listed, reached_end, rest_of}
+use Rattle.numbers.proofs.Passing.{Passing, passing_none, passing_turn, passing_standing, passing_refused, passing_many, passing_listed, reached_end, rest_of}
 use Rattle.numbers.proofs.read.Goals as goal
 use Rattle.numbers.proofs.read.Goals.{After-begins-count, After-last_place}
 
@@ -57,12 +57,6 @@ returns-in_err-may_end-2 c =
     let same : c.from_residual-in_err-may_end-2.result ≡ Err c.in_err-may_end-2.field-0.0 = search rules in
     let reached = reached_end c.args.line.now c.loop-i.i c.loop-i.place (omega (arith, c.loop-i-test.false)) in
     rw same (passing_refused c.loop-i.invariant.0 reached c.in_err-may_end-2.ensures)
-
-pub read_labels-requires : goal.read_labels-requires
-read_labels-requires c =
-    let all : length c.args.line.now ≤ c.loop-i.i = omega (arith, c.loop-i-test.false) in
-    let reached = reached_end c.args.line.now c.loop-i.i c.loop-i.place all in
-    passing_starts c.loop-i.invariant.0 reached c.in_ok-may_end-2.ensures.0 c.in_ok-may_end-2.ensures.1 all c.loop-i.invariant.1 c.requires
 
 pub returns : goal.returns
 returns c =
