@@ -105,8 +105,8 @@ pub fn twice(names: &[u16]) -> bool
 
 // The names of the rooms by position, from the front of a slice, from the names in list order and the rooms' places by position.
 pub fn by_position(names: &[u16], by: &[u8], list: &mut [u16])
-    requires list_places { length by.now ≤ length list.old }
-    requires rooms_in_bounds { (k : ℕ) → k < length by.now → get_or by.now k 0 < length names.now }
+    requires places { (length by.now ≤ length names.now) × (length by.now ≤ length list.old) }
+    requires rooms_in_bounds { (k : ℕ) → k < length by.now → get_or by.now k 0 < length by.now }
     ensures { list.new ≡ filled (λ k. get_or names.now (get_or by.now k 0) 0) (length by.now) list.old }
 {
     for (k, &room) in by.iter().enumerate() {

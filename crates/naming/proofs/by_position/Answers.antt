@@ -8,4 +8,4 @@ returns c =
     let names : ℕ → ℕ = λ k. get_or c.args.names.now (get_or c.args.by.now k 0) 0 in
     let all : c.loop-k.k ≡ length c.args.by.now = omega (arith, c.loop-k-test.false) in
     filling_end names (length c.args.by.now) (subst (λ (k : ℕ). Filling names 0 k c.args.list.now c.loop-k.list) all c.loop-k.invariant)
-    c.requires.list_places
+    c.requires.places.1
