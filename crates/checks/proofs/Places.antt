@@ -51,8 +51,10 @@ module _ (lists : CornerLists) where
   flat_tells true some = place→room (λ i room. Flat room) some
   flat_tells false none = λ size. none (room→place (λ i room. Flat room) size)
 
-  pub corners_wide_and_tall : ¬ RoomSize rooms → (i : ℕ) → i < n → ((corners i).left < (corners i).right) × ((corners i).bottom < (corners i).top)
-  corners_wide_and_tall size i h = subst (λ (room : Room). (room.left < room.right) × (room.bottom < room.top)) (at i h) (wide_and_tall rooms size i (omega (arith, count)))
+  pub corners_wide_and_tall : ¬ RoomSize rooms → (i : ℕ) → i < n
+      → ((corners i).left < (corners i).right) × ((corners i).bottom < (corners i).top)
+  corners_wide_and_tall size i h = subst (λ (room : Room). (room.left < room.right) × (room.bottom < room.top)) (at i h)
+      (wide_and_tall rooms size i (omega (arith, count)))
 
   -- ---- cause 3: of two rooms one is the earlier
   pub shares_earlier→overlap : Some (SharesEarlier lists) 0 n → Overlap rooms
@@ -76,10 +78,14 @@ module _ (lists : CornerLists) where
   -- the box of the lists' least and greatest corners is the outline
   box_is_outline : (box : Room) → box ≡ outline_of (plan_in lists) → box ≡ outline rooms
   box_is_outline box is = is ∙ (λ j. record {
-    left = (least_same (λ i. get_or lists.left.now i 0) (λ i. (room_in rooms i).left) n (side (λ room. room.left)) lists.some ∙ ap (least _) (sym count)) j;
-    bottom = (ap (least _) lists.one_length.bottoms_length ∙ least_same (λ i. get_or lists.bottom.now i 0) (λ i. (room_in rooms i).bottom) n (side (λ room. room.bottom)) lists.some ∙ ap (least _) (sym count)) j;
-    right = (ap (greatest _) lists.one_length.rights_length ∙ greatest_same (λ i. get_or lists.right.now i 0) (λ i. (room_in rooms i).right) n (side (λ room. room.right)) ∙ ap (greatest _) (sym count)) j;
-    top = (ap (greatest _) lists.one_length.tops_length ∙ greatest_same (λ i. get_or lists.top.now i 0) (λ i. (room_in rooms i).top) n (side (λ room. room.top)) ∙ ap (greatest _) (sym count)) j;
+    left = (least_same (λ i. get_or lists.left.now i 0) (λ i. (room_in rooms i).left) n (side (λ room. room.left)) lists.some
+        ∙ ap (least _) (sym count)) j;
+    bottom = (ap (least _) lists.one_length.bottoms_length ∙ least_same (λ i. get_or lists.bottom.now i 0)
+        (λ i. (room_in rooms i).bottom) n (side (λ room. room.bottom)) lists.some ∙ ap (least _) (sym count)) j;
+    right = (ap (greatest _) lists.one_length.rights_length ∙ greatest_same (λ i. get_or lists.right.now i 0)
+        (λ i. (room_in rooms i).right) n (side (λ room. room.right)) ∙ ap (greatest _) (sym count)) j;
+    top = (ap (greatest _) lists.one_length.tops_length ∙ greatest_same (λ i. get_or lists.top.now i 0)
+        (λ i. (room_in rooms i).top) n (side (λ room. room.top)) ∙ ap (greatest _) (sym count)) j;
     name = 0;
   })
     where

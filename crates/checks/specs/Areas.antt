@@ -120,7 +120,12 @@ module _ (rooms : List Room) (apart : ¬ Overlap rooms) where
         | inl outside ↦ omega (arith, times_le_outline x y)
         | inr h ↦
             let inside = square→covers (outline rooms) h in
-            let some = stable (dec_some _ (λ i. dec_covers (room_in rooms i) x y) 0 (length rooms)) (λ none. covered (x, y, inside, none)) in
+            let some = stable (dec_some _ (λ i. dec_covers (room_in rooms i) x y) 0 (length rooms)) (λ none. covered (
+              x,
+              y,
+              inside,
+              none,
+            )) in
             omega (arith, times_le_outline x y, some→times x y some, square_le (outline rooms) x y)
       ]
 

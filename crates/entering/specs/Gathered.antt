@@ -40,7 +40,8 @@ module _ (copied : CopiedRooms) (n : ℕ) (size : Sized copied) (few : n ≤ 255
   front_rooms = named_rooms (front copied.left) (front copied.bottom) (front copied.right) (front copied.top) (front copied.name)
 
   fronts_at : (i : ℕ) → i < n
-      → named_at (front copied.left) (front copied.bottom) (front copied.right) (front copied.top) (front copied.name) i ≡ copied_at copied i
+      → named_at (front copied.left) (front copied.bottom) (front copied.right) (front copied.top) (front copied.name) i
+      ≡ copied_at copied i
   fronts_at i h = λ j. record {
     left = get_or-take n copied.left i 0 h j;
     bottom = get_or-take n copied.bottom i 0 h j;
@@ -51,7 +52,8 @@ module _ (copied : CopiedRooms) (n : ℕ) (size : Sized copied) (few : n ≤ 255
 
   pub counted : 1 ≤ n → ¬ BadCount (length front_rooms)
   counted some h =
-      let many = length_table (named_at (front copied.left) (front copied.bottom) (front copied.right) (front copied.top) (front copied.name))
+      let many = length_table (named_at (front copied.left) (front copied.bottom) (front copied.right) (front copied.top)
+      (front copied.name))
       (length (front copied.left)) in
       let of_left = front_size copied.left size.left in
       elim h [ inl z ↦ omega arith | inr z ↦ omega arith ]

@@ -23,7 +23,8 @@ module _ {f : ℕ → ℕ} {by before : List ℕ} (o : Ranking by f) where
   pub ranks_none : Ranks (length by) f 0 before before
   ranks_none = record { size = refl; so_far = λ i h l. absurd (omega (arith, o.one_to_n.range i h)); kept = λ i h. refl }
 
-  pub rank_more : {k room : ℕ} {ranks : List ℕ} → k < length by → length by ≤ length before → room ≡ get_or by k 0 → Ranks (length by) f k before ranks
+  pub rank_more : {k room : ℕ} {ranks : List ℕ} → k < length by → length by ≤ length before → room ≡ get_or by k 0
+      → Ranks (length by) f k before ranks
       → Ranks (length by) f (k + 1) before (set ranks room (k + 1))
   rank_more {k} {room} {ranks} h places is r = record {
     size = length-set ranks room (k + 1) ∙ r.size;
@@ -44,7 +45,8 @@ module _ {f : ℕ → ℕ} {by before : List ℕ} (o : Ranking by f) where
       rank : f (get_or by k 0) ≡ k + 1
       rank = (o.in_order k h).1
 
-  pub ranks_all : {k : ℕ} {ranks : List ℕ} → length by ≤ k → length by ≤ length before → Ranks (length by) f k before ranks → ranks ≡ filled f (length by) before
+  pub ranks_all : {k : ℕ} {ranks : List ℕ} → length by ≤ k → length by ≤ length before → Ranks (length by) f k before ranks
+      → ranks ≡ filled f (length by) before
   ranks_all {k} {ranks} h places r = filling_end f (length by) (record {
     size = r.size;
     done = λ i z l. r.so_far i l (omega (arith, o.one_to_n.range i l));
@@ -72,12 +74,16 @@ module _ {rooms : List Room} {labels by : List ℕ} (g : LabelsInOrder rooms lab
   label_at_lem q h =
       let (there, position) = g.by_position q h in
       let (room<, e) = room_at_position_lem rooms k (suc q) (omega arith) (omega (arith, g.count)) in
-      let same : get_or by q 0 ≡ room_at_position rooms (suc q) = (positions_1_to_n rooms k).once (get_or by q 0) (room_at_position rooms (suc q))
+      let same : get_or by q 0 ≡ room_at_position rooms (suc q) = (positions_1_to_n rooms k).once (get_or by q 0)
+      (room_at_position rooms (suc q))
       (omega (arith, g.count)) room< (omega arith) in
       g.labels_are (get_or by q 0) there ∙ ap (label_of rooms) same ∙ sym (label_list_at rooms k q (omega (arith, g.count)))
 
-  pub labels_listed : (list : List ℕ) → length by ≤ length list → ((q : ℕ) → q < length by → get_or list q 0 ≡ get_or labels (get_or by q 0) 0)
+  pub labels_listed : (list : List ℕ) → length by ≤ length list → ((q : ℕ) → q < length by
+      → get_or list q 0 ≡ get_or labels (get_or by q 0) 0)
       → take (length by) list ≡ label_list rooms
   labels_listed list size each =
-      ext_get_or 0 (take (length by) list) (label_list rooms) (length-take-le (length by) list size ∙ sym (length_label_list rooms k ∙ g.count))
-      (λ q l. let h : q < length by = omega (arith, length-take-le (length by) list size) in get_or-take (length by) list q 0 h ∙ each q h ∙ label_at_lem q h)
+      ext_get_or 0 (take (length by) list) (label_list rooms) (length-take-le (length by) list size ∙ sym (length_label_list rooms k
+      ∙ g.count))
+      (λ q l. let h : q < length by = omega (arith, length-take-le (length by) list size) in get_or-take (length by) list q 0 h
+      ∙ each q h ∙ label_at_lem q h)

@@ -30,7 +30,8 @@ pub record Walks (left bottom right top links others : List ℕ) (ranks : ℕ �
   pub x : ℕ
   pub y : ℕ
   pub ranked : RankedIn left bottom right top x y ranks
-  pub linked : Linked (length left) (number_at left) (number_at bottom) (number_at right) (number_at top) x y (number_at links) (number_at others)
+  pub linked : Linked (length left) (number_at left) (number_at bottom) (number_at right) (number_at top) x y (number_at links)
+      (number_at others)
 
 -- in both orders: that of positions and, with bottom and top exchanged, that of labels
 pub record WalkBoth (lists : CornerLists) (up down : List ℕ) (first-up first-down : ℕ) : Type 0 where

@@ -1,5 +1,5 @@
--- `decide` meets its contract: the rooms stand at the front of the five arrays; a verdict is a refusal with its cause, for the causes 2 to 5
--- look at no names; an accepted list is refused for its names, or written.
+-- `decide` meets its contract: the rooms stand at the front of the five arrays; a verdict is a refusal with its cause, for the causes 2
+-- to 5 look at no names; an accepted list is refused for its names, or written.
 use Rattle.std.proofs.Common.{◌≡◌, List, ℕ, ◌≤◌, length, get_or, take, subst, arith, rules, Result, Err}
 use Rattle.finite.specs.Decide.{told_true}
 use Rattle.record.specs.Causes.{BadCount}

@@ -107,7 +107,13 @@ returns c =
     let before = slices a.«record».now a.labels.now a.positions.now a.names.now in
     let listed = c.label_list.ensures (named_in lists names)
     (ordered lists names unnamed q.all_named q.no_name_twice walked size (omega (arith, n, c.if-labels-n.false))) in
-    let whole = take_all (length by) c.label_list.new.list (omega (arith, size, q.places.1, c.labels_and_positions.auto.by_label, c.label_list.auto.list)) in
+    let whole = take_all (length by) c.label_list.new.list (omega (
+      arith,
+      size,
+      q.places.1,
+      c.labels_and_positions.auto.by_label,
+      c.label_list.auto.list,
+    )) in
     written_for (named_in lists names) (accepted lists names unnamed q.all_named q.no_name_twice) before
     (long lists names unnamed q.all_named q.no_name_twice before (omega (arith, n, c.if-record-n.false))
     (omega (arith, n, c.if-labels-n.false)) (omega (arith, n, c.if-positions-n.false)) (omega (arith, n, c.if-names-n.false)))

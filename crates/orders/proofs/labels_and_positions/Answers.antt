@@ -24,11 +24,20 @@ returns c =
     let plan = c.requires.paired_plan in
     let orders = c.both_orders.ensures in
     let n = c.len-n.ensures in
-    let labels = (rw n at c.rank_all.ensures) _ (walked→ranking (labels_walk plan) _ (omega (arith, c.requires.order_places)) orders.labels) in
+    let labels = (rw n at c.rank_all.ensures) _ (walked→ranking (labels_walk plan) _ (omega (
+      arith,
+      c.requires.order_places,
+    )) orders.labels) in
     let positions = (rw n at c.rank_all-2.ensures) _
     (walked→ranking (positions_walk plan) _ (omega (arith, c.requires.order_places)) orders.positions) in
     record {
       by_position = orders.positions;
-      labels_are = rw (length-take-le (count_of c.args.lists.now) c.both_orders.new.by_label (omega (arith, c.requires.order_places))) at labels;
-      positions_are = rw (length-take-le (count_of c.args.lists.now) c.both_orders.new.by_position (omega (arith, c.requires.order_places))) at positions;
+      labels_are = rw (length-take-le (count_of c.args.lists.now) c.both_orders.new.by_label (omega (
+        arith,
+        c.requires.order_places,
+      ))) at labels;
+      positions_are = rw (length-take-le (count_of c.args.lists.now) c.both_orders.new.by_position (omega (
+        arith,
+        c.requires.order_places,
+      ))) at positions;
     }
