@@ -178,10 +178,16 @@ Ends last end left below = (end ≡ last) ⊎ ((end ≡ 0) × (left ≡ 1) × (b
 pub both_bit : {left below : ℕ} → left ≤ 1 → below ≤ 1 → bit_and left below ≤ 1
 both_bit {left} {below} small also = omega (arith, and_le_l left below)
 
-pub ends_next : (last end left below : ℕ) {at : ℕ} → end ≡ last → left ≤ 1 → below ≤ 1 → at ≡ either (bit_and left below) 0 end
+ends_next : (last end left below : ℕ) {at : ℕ} → end ≡ last → left ≤ 1 → below ≤ 1 → at ≡ either (bit_and left below) 0 end
     → Ends last at left below
 ends_next last end zero below is small also e = inl (omega arith)
 ends_next last end (suc zero) zero is small also e = inl (omega arith)
 ends_next last end (suc zero) (suc zero) is small also e = inr (omega arith, refl, refl)
 ends_next last end (suc zero) (suc (suc below)) is small also e = absurd (omega arith)
 ends_next last end (suc (suc left)) below is small also e = absurd (omega arith)
+
+-- the same by a number that is both bits
+pub ends_chosen : (last end left below both : ℕ) {at : ℕ} → both ≡ bit_and left below → end ≡ last → left ≤ 1 → below ≤ 1
+    → at ≡ either both 0 end → Ends last at left below
+ends_chosen last end left below both {at} both_is is small also e =
+    ends_next last end left below is small also (subst (λ (b : ℕ). at ≡ either b 0 end) both_is e)

@@ -15,7 +15,7 @@ pub fn member(group: &[u8; 32], i: usize) -> u8
     requires { i < 256 }
     ensures { Marks result (Member group.now (suc i)) }
 {
-    ((steps::wide(group[i / 8]) >> (i % 8)) & 1) as u8
+    (group[i / 8] >> (i % 8)) & 1
 }
 
 // Whether some room of the first group is left of some room of the second, and whether one is below one.
@@ -48,6 +48,7 @@ pub fn relations(body: &[u8], n: usize, last: usize, first: &[u8; 32], second: &
     let mut some_below = 0u8;
     let mut end = last;
     let mut k = 0;
+    // A while: where both have occurred its end comes at once, chosen with no jump.
     while k + 1 < end {
         let turn = steps::turn_of(bits::group(body, k));
         across_below[runs_below + 1] = right;
@@ -63,13 +64,13 @@ pub fn relations(body: &[u8], n: usize, last: usize, first: &[u8; 32], second: &
         k += 1;
         let one = member(first, k);
         let other = member(second, k);
-        some_left = some_left | (left & other);
-        some_below = some_below | (bottom & other);
+        some_left |= left & other;
+        some_below |= bottom & other;
         right = left | beside | one;
         top = bottom | under | one;
         runs_below = below - turn.below;
         runs_above = above - turn.above;
-        end = steps::chosen((some_left & some_below) as usize, 0, end);
+        end = steps::chosen(usize::from(some_left & some_below), 0, end);
     }
     Seen {
         left: some_left == 1,

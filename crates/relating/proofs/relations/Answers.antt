@@ -14,7 +14,7 @@ use Rattle.steps.specs.Turn.{Says}
 use Rattle.sizes.specs.Direction.{across, upward}
 use Rattle.sizes.proofs.Turned.{TurnFits}
 use Rattle.groups.specs.Group.{Member}
-use Rattle.relating.proofs.Meeting.{Ends, both_bit, ends_next, meeting_first, meeting_fits, meeting_next, meeting_end}
+use Rattle.relating.proofs.Meeting.{Ends, both_bit, ends_chosen, meeting_first, meeting_fits, meeting_next, meeting_end}
 use Rattle.relating.proofs.relations.Goals as goal
 use Rattle.relating.proofs.relations.Goals.{After-turn_of-turn}
 
@@ -59,7 +59,7 @@ chosen-end-requires c =
     let m = meeting_next c.args.body.now c.args.first.now c.args.second.now c.args.n c.requires.0 c.loop-k.invariant.0 (more (goal.at.chosen-end-requires c).After-turn_of-turn) c.turn_of-turn.result (told (goal.at.chosen-end-requires c).After-turn_of-turn)
     (here c.args.first.now c.loop-k.k c.member-one.ensures) (here c.args.second.now c.loop-k.k c.member-other.ensures)
     x.result y.result x.ensures y.ensures in
-    both_bit (marks_le m.met_left) (marks_le m.met_below)
+    omega (arith, both_bit (marks_le m.met_left) (marks_le m.met_below))
 
 pub loop-k-preserved : goal.loop-k-preserved
 loop-k-preserved c =
@@ -68,7 +68,7 @@ loop-k-preserved c =
     let m = meeting_next c.args.body.now c.args.first.now c.args.second.now c.args.n c.requires.0 c.loop-k.invariant.0 (more (goal.at.loop-k-preserved c).After-turn_of-turn) c.turn_of-turn.result (told (goal.at.loop-k-preserved c).After-turn_of-turn)
     (here c.args.first.now c.loop-k.k c.member-one.ensures) (here c.args.second.now c.loop-k.k c.member-other.ensures)
     x.result y.result x.ensures y.ensures in
-    (m, ends_next c.args.last c.loop-k.end _ _ (goes_on c.loop-k.k c.loop-k.invariant.1 c.loop-k-test.true) (marks_le m.met_left) (marks_le m.met_below) c.chosen-end.ensures)
+    (m, ends_chosen c.args.last c.loop-k.end _ _ c.from.result (omega arith) (goes_on c.loop-k.k c.loop-k.invariant.1 c.loop-k-test.true) (marks_le m.met_left) (marks_le m.met_below) c.chosen-end.ensures)
 
 pub returns : goal.returns
 returns c =
