@@ -1,71 +1,62 @@
 -- What is answered for an accepted record and two groups whose last positions are known, check by check.
 use mathlib.Core.List.{List}
-use mathlib.Core.Logic.{◌≢◌, ◌⊎◌, inl, inr}
+use mathlib.Core.Logic.{inl, inr}
 use mathlib.Core.Path.{◌≡◌, ap, subst, ◌∙◌}
-use Prim.Native.Nat.{ℕ, ◌≤◌, ◌<◌}
+use Prim.Native.Nat.{ℕ, ◌<◌}
 use native.Mathlib.Omega.{arith}
-use Rattle.finite.specs.Decide.{le_or_lt}
 use Rattle.record.specs.Labels.{label_at}
 use Rattle.record.specs.Read.{kind_of, labels_of}
 use Rattle.record.specs.declared.Refusal.TheVariants.{PositionOutside, EmptyGroup, SamePosition}
 use Rattle.judging.specs.Judge.{Accepts}
 use Rattle.judging.specs.Passed.{tail}
 use Rattle.judging.specs.Walkable.{labels_in, labels_in_body}
-use Rattle.groups.specs.Group.{Outside, Empty, SomeEmpty, Common, Fits}
+use Rattle.groups.specs.Group.{SomeIn, Outside, Empty, SomeEmpty, Common, Fits}
 use Rattle.groups.specs.Answer.{standing, groups_answer}
 use Rattle.groups.proofs.StandingFacts.{standing_says}
 use Rattle.groups.proofs.Demand1.{Asked, outside, empty, common, asked_answer, demand1_groups_answer}
-use Rattle.groups.specs.declared.GroupsAnswer.TheVariants.{Refused}
-use Rattle.grouping.specs.Ends.{LastIn}
+use Rattle.std.specs.Prelude.{Option, Some, None, Err}
+use Rattle.grouping.specs.Ends.{IsLast, LastIn, Past}
 
-none_empty : (group : List ℕ) {last : ℕ} → LastIn group last → last ≡ 0 → Empty group
-none_empty group end e (k, a, b, m) = omega (arith, end.none_past k a b m)
-
-some_filled : (group : List ℕ) {last : ℕ} → LastIn group last → last ≢ 0 → ¬ Empty group
-some_filled group {last} end not none = none (last, omega arith, omega (arith, end.few), end.has (omega arith))
-
-module _ {bytes : List ℕ} {n fallen : ℕ} (a : Accepts bytes n fallen) (first second : List ℕ) {one other : ℕ} (one_end : LastIn first one)
-    (other-end : LastIn second other) where
+module _ {bytes : List ℕ} {n fallen : ℕ} (a : Accepts bytes n fallen) (first second : List ℕ) (one other : Option ℕ)
+    (one_end : LastIn first one) (other_end : LastIn second other) where
   -- of a plan of n rooms, which is the record's kind
   of_kind : Outside n first second → Outside (kind_of bytes) first second
   of_kind = subst (λ (m : ℕ). Outside m first second) a.rooms_are
 
-  pub past_rooms : (n < one) ⊎ (n < other) → Refused PositionOutside ≡ groups_answer bytes first second
-  past_rooms past = demand1_groups_answer bytes first second (outside a.readable (of_kind (elim past [
-    | inl h ↦ inl (one, omega arith, omega (arith, one_end.few), (one_end.has (omega arith), h))
-    | inr h ↦ inr (other, omega arith, omega (arith, other-end.few), (other-end.has (omega arith), h))
-  ])))
+  outside_of : (group : List ℕ) (last : Option ℕ) → LastIn group last → Past n last → SomeIn group (λ k. n < k)
+  outside_of group (Some last) end h = (last, end.from, omega (arith, end.few), (end.has, h))
+  outside_of group None end h = absurd h
 
-  module _ (none_past : ¬ ((n < one) ⊎ (n < other))) where
-    one_few : one ≤ n
-    one_few = elim (le_or_lt one n) [ inl h ↦ h | inr h ↦ absurd (none_past (inl h)) ]
+  pub first_past : Past n one → Err PositionOutside ≡ groups_answer bytes first second
+  first_past h = demand1_groups_answer bytes first second (outside a.readable (of_kind (inl (outside_of first one one_end h))))
 
-    other_few : other ≤ n
-    other_few = elim (le_or_lt other n) [ inl h ↦ h | inr h ↦ absurd (none_past (inr h)) ]
+  pub second_past : Past n other → Err PositionOutside ≡ groups_answer bytes first second
+  second_past h = demand1_groups_answer bytes first second (outside a.readable (of_kind (inr (outside_of second other other_end h))))
+
+  module _ (one_in : ¬ Past n one) (other_in : ¬ Past n other) where
+    within : (group : List ℕ) (last : Option ℕ) → LastIn group last → ¬ Past n last → ¬ SomeIn group (λ k. n < k)
+    within group (Some last) end none (k, c, d, (m, h)) = none (omega (arith, end.none_past k c d m))
+    within group None end none (k, c, d, (m, h)) = end (k, c, d, m)
 
     inside : ¬ Outside n first second
-    inside z = elim z [
-      | inl (k, c, d, (m, h)) ↦ omega (arith, one_few, one_end.none_past k c d m)
-      | inr (k, c, d, (m, h)) ↦ omega (arith, other_few, other-end.none_past k c d m)
-    ]
+    inside (inl z) = within first one one_end one_in z
+    inside (inr z) = within second other other_end other_in z
 
     inside_kind : ¬ Outside (kind_of bytes) first second
     inside_kind = subst (λ (m : ℕ). ¬ Outside m first second) a.rooms_are inside
 
-    pub none_in : (one ≡ 0) ⊎ (other ≡ 0) → Refused EmptyGroup ≡ groups_answer bytes first second
-    none_in none = demand1_groups_answer bytes first second (empty a.readable inside_kind (elim none [
-      | inl e ↦ inl (none_empty first one_end e)
-      | inr e ↦ inr (none_empty second other-end e)
-    ]))
+    pub first_empty : Empty first → Err EmptyGroup ≡ groups_answer bytes first second
+    first_empty none = demand1_groups_answer bytes first second (empty a.readable inside_kind (inl none))
 
-    module _ (some_in : ¬ ((one ≡ 0) ⊎ (other ≡ 0))) where
+    pub second_empty : Empty second → Err EmptyGroup ≡ groups_answer bytes first second
+    second_empty none = demand1_groups_answer bytes first second (empty a.readable inside_kind (inr none))
+
+    module _ {one_last other_last : ℕ} (one_is : IsLast first one_last) (other_is : IsLast second other_last) where
       filled : ¬ SomeEmpty first second
-      filled z = elim z [
-        | inl e ↦ some_filled first one_end (λ none. some_in (inl none)) e
-        | inr e ↦ some_filled second other-end (λ none. some_in (inr none)) e
-      ]
+      filled (inl e) = e (one_last, one_is.from, omega (arith, one_is.few), one_is.has)
+      filled (inr e) = e (other_last, other_is.from, omega (arith, other_is.few), other_is.has)
 
-      pub shared_position : Common first second → Refused SamePosition ≡ groups_answer bytes first second
+      pub shared_position : Common first second → Err SamePosition ≡ groups_answer bytes first second
       shared_position c = demand1_groups_answer bytes first second (common a.readable inside_kind filled c)
 
       module _ (apart : ¬ Common first second) where

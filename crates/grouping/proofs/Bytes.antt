@@ -1,41 +1,17 @@
--- The bytes of a group and their bits: a byte of 0 has no position of the group, and two bytes have a bit in common where they are not 0
--- when and-ed.
+-- The bytes of two groups: two bytes have a bit in common where they are not 0 when and-ed.
 use mathlib.Core.Bool.{not}
 use mathlib.Core.List.{List}
 use mathlib.Core.Logic.{◌≢◌, inl, inr}
 use mathlib.Core.Path.{◌≡◌, refl, sym, ap, subst, ◌∙◌}
-use Prim.Native.Nat.{ℕ, ◌+◌, ◌-◌, ◌*◌, ◌/◌, ◌%◌, ◌≤◌, ◌<◌, zero-le}
+use Prim.Native.Nat.{ℕ, ◌+◌, ◌-◌, ◌*◌, ◌/◌, ◌%◌, ◌<◌, zero-le}
 use native.Mathlib.Omega.{arith}
 use lib.Bits.{bit_and, bit_or, and_le_l, and_le_r, or_add_and}
 use lib.Dec.{eqb}
 use lib.ListN.{get_or}
 use Rattle.finite.specs.BitTable.{digit, digit_zero, digit_and, some_digit}
-use Rattle.finite.specs.Decide.{Tells, tells_iff, tells_not, tells_equal, le_or_lt, eq_or_ne}
+use Rattle.finite.specs.Decide.{Tells, tells_iff, tells_not, tells_equal, eq_or_ne}
 use Rattle.finite.specs.Search.{Some}
-use Rattle.groups.specs.Group.{Member, EachIn, Common}
-
--- ---- bytes of 0
--- no position of the group is in a byte of 0
-pub zero_byte : (group : List ℕ) (at : ℕ) → get_or group at 0 ≡ 0 → (k : ℕ) → Member group k → (k - 1) / 8 ≢ at
-zero_byte group at e k m same =
-    let none : digit (get_or group ((k - 1) / 8) 0) ((k - 1) % 8) ≡ 0 = ap (λ (at : ℕ). digit (get_or group at 0) ((k - 1) % 8)) same
-    ∙ ap (λ (byte : ℕ). digit byte ((k - 1) % 8)) e ∙ digit_zero ((k - 1) % 8) in
-    omega (arith, m, none)
-
--- ---- the positions that are looked at from the end
-pub none_past_byte : (group : List ℕ) (used : ℕ) → EachIn group (λ k. k ≤ 8 * used) → 0 < used → get_or group (used - 1) 0 ≡ 0
-    → EachIn group (λ k. k ≤ 8 * (used - 1))
-none_past_byte group used all some e k a b m = elim (le_or_lt k (8 * (used - 1))) [
-  | inl h ↦ h
-  | inr h ↦ absurd (zero_byte group (used - 1) e k m (omega (arith, all k a b m)))
-]
-
-pub none_before_byte : (group : List ℕ) (unused : ℕ) → EachIn group (λ k. 8 * unused < k) → get_or group unused 0 ≡ 0
-    → EachIn group (λ k. 8 * (unused + 1) < k)
-none_before_byte group unused all e k a b m = elim (le_or_lt k (8 * (unused + 1))) [
-  | inl h ↦ absurd (zero_byte group unused e k m (omega (arith, all k a b m)))
-  | inr h ↦ h
-]
+use Rattle.groups.specs.Group.{Common}
 
 -- ---- bytes with a common bit
 -- two digits are both 1 exactly if they are 1 when and-ed

@@ -1,20 +1,18 @@
 -- M-109 with the question: "For two groups of one room each this is the old relation without the word direct."
-use Rattle.std.specs.Prelude.{List, ◌≢◌, ◌⊎◌, ◌≡◌, ℕ, ◌≤◌}
+use Rattle.std.specs.Prelude.{List, ◌≢◌, ◌⊎◌, ◌≡◌, ℕ, ◌≤◌, Some, Result, Ok, Err}
 use Rattle.std.proofs.Common.{inl, inr, sym, subst, ◌∙◌, arith}
 use Rattle.record.specs.Labels.{label_at}
 use Rattle.record.specs.Read.{kind_of, labels_of}
 use Rattle.drawing.specs.Side.{side_of}
 use Rattle.groups.specs.Group.{Member, EachIn, Outside, SomeEmpty, Common}
-use Rattle.groups.specs.Answer.{groups_answer}
+use Rattle.groups.specs.Answer.{GroupsAnswer, groups_answer}
 use Rattle.groups.proofs.Demand1.{GroupsSays, refused_record, outside, common, related, demand1_groups_answer}
-use Rattle.groups.specs.declared.GroupsAnswer.{GroupsAnswer}
-use Rattle.groups.specs.declared.GroupsAnswer.TheVariants.{Related, Refused}
+use Rattle.record.specs.declared.Refusal.{Refusal}
 use Rattle.questions.specs.Answer as question
 use Rattle.questions.specs.Answer.{question_answer}
 use Rattle.questions.specs.Demand1 as asked
 use Rattle.questions.specs.Demand1.{QuestionSays, demand1_question_cause}
-use Rattle.questions.specs.declared.QuestionAnswer.{QuestionAnswer}
-use Rattle.questions.specs.declared.QuestionAnswer.TheVariants as answer
+use Rattle.questions.specs.declared.Related.{Related}
 
 -- position i is the only one in the group
 pub record Only (group : List ℕ) (i : ℕ) : Type 0 where
@@ -24,9 +22,9 @@ pub record Only (group : List ℕ) (i : ℕ) : Type 0 where
   pub only : EachIn group (λ k. k ≡ i)
 
 -- the old relation without the word direct, and without the touch
-abbrev pub side_alone : QuestionAnswer → GroupsAnswer
-side_alone (answer.Related relation touch) = Related relation.side
-side_alone (answer.Refused refusal) = Refused refusal
+abbrev pub side_alone : Result Related Refusal → GroupsAnswer
+side_alone (Ok told) = Ok (Some told.relation.side)
+side_alone (Err refusal) = Err refusal
 
 module _ (bytes first second : List ℕ) (i j : ℕ) (one : Only first i) (other : Only second j) where
   abbrev n : ℕ
@@ -49,7 +47,7 @@ module _ (bytes first second : List ℕ) (i j : ℕ) (one : Only first i) (other
   apart : i ≢ j → ¬ Common first second
   apart differ (k, a, b, (m, l)) = differ (sym (one.only k a b m) ∙ other.only k a b l)
 
-  says : {x : QuestionAnswer} → QuestionSays bytes i j x → GroupsSays bytes first second (side_alone x)
+  says : {x : Result Related Refusal} → QuestionSays bytes i j x → GroupsSays bytes first second (side_alone x)
   says (asked.refused_record cause) = refused_record cause
   says (asked.outside all o) = outside all (outside_as o)
   says (asked.same all o e) =

@@ -6,7 +6,8 @@ use Rattle.grouping.proofs.in_common.Goals as goal
 
 pub loop-i-preserved : goal.loop-i-preserved
 loop-i-preserved c =
-    (omega (arith, c.loop-i-test.true), looked_more c.args.first.now c.args.second.now c.loop-i.i c.loop-i.both c.shared-both.result c.loop-i.invariant.1 c.shared-both.ensures.0 c.shared-both.ensures.1)
+    looked_more c.args.first.now c.args.second.now c.loop-i.i c.loop-i.both c.shared-both.result c.loop-i.invariant c.shared-both.ensures.0
+    c.shared-both.ensures.1
 
 pub returns : goal.returns
-returns c = looked_all c.args.first.now c.args.second.now c.loop-i.i c.loop-i.both c.loop-i.invariant.1 (omega (arith, c.loop-i-test.false, c.loop-i.invariant.0))
+returns c = looked_all c.args.first.now c.args.second.now c.loop-i.i c.loop-i.both c.loop-i.invariant (omega arith)
