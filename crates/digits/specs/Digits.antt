@@ -51,7 +51,7 @@ decimal_three number low high =
 -- what the library prints of a number
 pub library_decimal : (number : ℕ) → number < 2 ^ 64 → printed number ≡ decimal number
 library_decimal number h =
-    let last : AppendsLastDigit (λ turns n. decimal n) = record { one = λ turns n small. decimal_one n small; more = λ turns n large. decimal_more n large } in
+    let last : AppendsLastDigit (λ turns n. decimal n) = record { one = λ turns. decimal_one; more = λ turns. decimal_more } in
     sym (decimal_from_appends (λ turns n. decimal n) last 20 number h (length-decimal-le 20 number (omega arith) (omega arith) h))
 
 pub decimal_short : (number : ℕ) → number < 65536 → length (decimal number) ≤ 5

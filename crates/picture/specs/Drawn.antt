@@ -52,7 +52,8 @@ module _ (label other : ℕ → ℕ) (room another : ℕ → Room) (n : ℕ)
   segments_same zero l = refl
   segments_same (suc k) l = λ t.
       segments_same k (omega arith) t
-      ++ segment_drawn n (line_between (suc k) (h k (omega arith) t) (h (suc k) (omega arith) t) (g k (omega arith) t) (g (suc k) (omega arith) t))
+      ++ segment_drawn n
+      (line_between (suc k) (h k (omega arith) t) (h (suc k) (omega arith) t) (g k (omega arith) t) (g (suc k) (omega arith) t))
 
 pub picture_local : Local picture
 picture_local label other room another n h g =

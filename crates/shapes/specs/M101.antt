@@ -1,5 +1,5 @@
--- M-101 of the picture: its lines, drawn on 1 to n - 1, are the inner segments of the drawing. In `view_of segments labels` the line on k is
--- `segment_drawn` of the stretch that is spoken of here.
+-- M-101 of the picture: its lines, drawn on 1 to n - 1, are the inner segments of the drawing. In `view_of segments labels` the line on k
+-- is `segment_drawn` of the stretch that is spoken of here.
 use Rattle.std.specs.Prelude.{List, ◌≢◌, ℕ, length}
 use Rattle.std.proofs.Common.{inr, arith}
 use Rattle.record.specs.Labels.{label_at}

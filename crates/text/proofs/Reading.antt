@@ -46,7 +46,8 @@ room_drawn labels corners n size held k inside =
     ∙ ap (λ (m : ℕ). room_at (label_at labels) m (suc k)) size
 
 module _ {bytes before labels : List ℕ} {corners : Corners} (byte : kind_of bytes ≤ 255) (places : length before ≡ 255) where
-  checked_answer : {answer : Result ℕ Refusal} → CornersIn bytes before 255 answer labels corners → answer ≡ checked Err bytes (Ok (kind_of bytes))
+  checked_answer : {answer : Result ℕ Refusal} → CornersIn bytes before 255 answer labels corners
+      → answer ≡ checked Err bytes (Ok (kind_of bytes))
   checked_answer told =
       let fit = if_neg (dec_short (kind_of bytes) 255 255) (enough (kind_of bytes) byte) _ _ in
       told.answered

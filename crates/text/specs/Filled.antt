@@ -36,7 +36,8 @@ pub record Filling (before form numbers text left : List ℕ) (i : ℕ) : Type 0
 
 module _ {before form numbers text left : List ℕ} {i : ℕ} (f : Filling before form numbers text left i) (inside : i < length form) where
   -- what is put grows by a part, and what is left loses it
-  grown : {after : List ℕ} (rest part : List ℕ) → filled (get_or form i 0 ∷ drop (suc i) form) left ≡ part ++ filled (drop (suc i) form) rest
+  grown : {after : List ℕ} (rest part : List ℕ)
+      → filled (get_or form i 0 ∷ drop (suc i) form) left ≡ part ++ filled (drop (suc i) form) rest
       → length part + 4 * length rest ≤ 1 + 4 * length left → after ≡ text ++ part
       → Filling before form numbers after rest (i + 1)
   grown rest part e h is = record {
@@ -50,8 +51,11 @@ module _ {before form numbers text left : List ℕ} {i : ℕ} (f : Filling befor
   pub number_put : {after rest : List ℕ} {number : ℕ} → 0 < length left → get_or form i 0 ≡ mark → number ≡ get_or left 0 0 → number < 65536
       → rest ≡ take (length left - 1) (drop 1 left) → after ≡ text ++ decimal number → Filling before form numbers after rest (i + 1)
   number_put {rest = rest} {number = number} some marks first small others is =
-      let tail : rest ≡ drop 1 left = others ∙ ap (λ (k : ℕ). take k (drop 1 left)) (sym (length-drop 1 left)) ∙ take-length (drop 1 left) in
-      grown rest (decimal number) (one left some first tail) (omega (arith, decimal_short number small, ap length tail, length-drop 1 left)) is
+      let whole : take (length left - 1) (drop 1 left) ≡ drop 1 left =
+      ap (λ (k : ℕ). take k (drop 1 left)) (sym (length-drop 1 left)) ∙ take-length (drop 1 left) in
+      let tail : rest ≡ drop 1 left = others ∙ whole in
+      let short = decimal_short number small in
+      grown rest (decimal number) (one left some first tail) (omega (arith, ap length tail, length-drop 1 left)) is
     where
       one : (l : List ℕ) → 0 < length l → number ≡ get_or l 0 0 → rest ≡ drop 1 l
           → filled (get_or form i 0 ∷ drop (suc i) form) l ≡ decimal number ++ filled (drop (suc i) form) rest
