@@ -135,7 +135,8 @@ fn rank_all(by: &[u8], ranks: &mut [u8])
 }
 
 // From the front of the slices the label and the position of each room, at its place in the list, and the rooms by position. `by_label` is
-// for the rooms by label.
+// for the rooms by label. `there` and `back` are no struct with their clause: what is known of them names the keys by which they were
+// paired, and a ghost field takes no fact that has several proofs.
 pub fn labels_and_positions(
     lists: &CornerLists,
     there: &[u16],
