@@ -1,5 +1,6 @@
 // Groups of three bits in a slice of bytes, the highest bit of a byte first: one group read, and one group set; or eight groups read.
-// A group lies in one byte or crosses into the next. Either way it is shifted and masked in a word of 16 bits.
+// A group lies in one byte or crosses into the next. Either way it is shifted and masked in a word of 16 bits. A slice has at most 65,535
+// bytes here, so that the number of a bit is in an index: no type says it, since the slices are the callers' own.
 #![tactic(auto)]
 
 ghost use Rattle.std.specs.Prelude.{◌≡◌, ◌+◌, ◌*◌, ◌<◌, ◌≤◌, length};

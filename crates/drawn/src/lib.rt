@@ -8,8 +8,6 @@ ghost use Rattle.answers.specs.Corners.{rooms_from};
 use drawing::{Corners, Room};
 use record::Refusal;
 
-// ---- rooms lent as structs
-
 // Writes the first `n` rooms from the front of a slice, which has the room, and leaves the rest of it. The fields are stored one by one:
 // a room stored whole makes slower code.
 fn put_rooms(corners: &Corners, n: usize, rooms: &mut [Room])

@@ -57,7 +57,7 @@ pub fn encode(labels: &[u8], record: &mut [u8]) -> bool
     record[0] = n as u8;
     let mut seen = [0u8; 32];
     // Each stack is an array, with its count beside it: in a struct with the array, which is indexed, a turn waits for the count in
-    // memory. So tried, the pass took a fifth longer.
+    // memory, and the pass takes a fifth longer.
     let mut below = [Label(0); 255];
     let mut above = [Label(255); 255];
     let mut runs_below = 0;

@@ -65,8 +65,8 @@ pub fn labels_in(labels: &[u8], record: &mut [u8]) -> Result<usize, Refusal>
     Ok(size)
 }
 
-// The verdict on a label list, for calls that take labels in another form. The causes are looked for by Labels in and nowhere else:
-// its answer, with room for the longest record, tells the verdict.
+// The verdict on a label list, for calls that take labels in another form: the answer of Labels in, with room for the longest record,
+// tells it.
 pub fn judge(labels: &[u8]) -> Result<(), Refusal>
     ensures { result ≡ verdict_of labels.now }
 {

@@ -7,13 +7,6 @@ ghost use Rattle.record.specs.TripleNumber.{triple_of};
 ghost use Rattle.steps.specs.Counts.{end_counts, lowered};
 ghost use Rattle.steps.specs.Turn.{Says};
 
-// A byte as an index.
-pub fn wide(byte: u8) -> usize
-    ensures { (result ≡ byte) × (result ≤ 255) }
-{
-    usize::from(byte)
-}
-
 // What a triple says of the new label, each 1 or 0: it is joined to a run above it, to a run below it; it lies above the current
 // run, below it. They are numbers, since the walks add them to their counts.
 #[derive(Clone, Copy)]
