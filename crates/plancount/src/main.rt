@@ -10,6 +10,9 @@ ghost use Rattle.plancount.specs.Text.{line_of, Printed};
 use std::io::{self, Write};
 use text::Text;
 
+// Places for 17 times 17 lines, each of two numbers of at most five digits and one of at most twenty, and a byte after each.
+const TEXT: usize = 9537;
+
 // The figure of a pair, which is one that is counted.
 fn figure(n: u8, rises: u8) -> u64
     requires { (n ≤ 17) × (rises < n) }
@@ -20,9 +23,9 @@ fn figure(n: u8, rises: u8) -> u64
 
 // Puts the line of a pair.
 #[tactic(auto, using(crate::proofs::Lines::line_form))]
-fn put_line(text: &mut Text, n: u8, rises: u8)
+fn put_line(text: &mut Text<TEXT>, n: u8, rises: u8)
     requires pair { (n ≤ 17) × (rises < n) }
-    requires fits { array_vec_len text.old + 33 ≤ 56000 }
+    requires fits { array_vec_len text.old + 33 ≤ TEXT }
     ensures items { text.new.items ≡ text.old.items ++ line_of n rises (plan_count n rises) }
     ensures len { array_vec_len text.new ≤ array_vec_len text.old + 33 }
 {
@@ -32,11 +35,11 @@ fn put_line(text: &mut Text, n: u8, rises: u8)
 
 // The whole text.
 #[tactic(auto, using(crate::proofs::Lines::in_turn))]
-fn put_text() -> Text
+fn put_text() -> Text<TEXT>
     ensures { Printed result.items }
 {
     let mut text = Text::new();
-    for n in 1..18 {
+    for n in 1..=counting::MOST_ROOMS {
         for rises in 0..n {
             put_line(&mut text, n, rises);
         }

@@ -11,8 +11,11 @@ use text::{Plan, Text};
 // As many bytes as planlist reads.
 const INPUT: usize = 98;
 
+// Places for the head, 255 rooms of at most 154 bytes and 254 segments of at most 62.
+const TEXT: usize = 56000;
+
 // The whole text for a record: the picture of its plan, or why it is refused.
-fn put_picture(record: &[u8]) -> Text
+fn put_picture(record: &[u8]) -> Text<TEXT>
     ensures { result.items ≡ picture_of «record».now }
 {
     match Plan::read(record) {

@@ -11,9 +11,12 @@ use text::{Plan, Text};
 // "at most 98 bytes": one more than the longest record has, so that a longer input is refused for its first 98 bytes already.
 const INPUT: usize = 98;
 
+// Places for a header and 255 lines of six numbers, each of at most five digits and one byte more.
+const TEXT: usize = 9200;
+
 // The whole text for a record: the listing of its plan, or why it is refused. plandraw has the same four lines over pictures: one
 // function for both, over a closure, would be no shorter, and each of the two states its own text.
-fn put_text(record: &[u8]) -> Text
+fn put_text(record: &[u8]) -> Text<TEXT>
     ensures { result.items ≡ text_of «record».now }
 {
     match Plan::read(record) {

@@ -1,4 +1,5 @@
-// The plan of a record, and what stands at its positions.
+// The plan of a record, and what stands at its positions. It has a module of its own, since a struct with a ghost field imports every
+// `ghost use` of its file, and those of lib.rt name definitions over `Plan`.
 ghost use Rattle.std.specs.Prelude.{◌≡◌, ℕ, suc, ◌≤◌, ◌<◌};
 ghost use Rattle.record.specs.Labels.{label_at};
 ghost use Rattle.drawing.specs.Corners.{room_in};
@@ -8,6 +9,7 @@ use drawing::{Corners, Room};
 use record::{Label, Position};
 
 // The plan of a record: the labels and the corners of its rooms, by position. A record has 1 to 255 rooms, and they lie in the outline.
+// The clause that a position is one of the n stands in contracts and is no type: `Position` is the sheet's tuple struct, and n is the plan's.
 #[derive(Clone, Copy)]
 pub struct Plan {
     pub n: u8,

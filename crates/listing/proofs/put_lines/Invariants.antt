@@ -6,7 +6,7 @@ use Rattle.listing.specs.Text.{lines_of}
 use Rattle.listing.proofs.put_lines.Given as goal
 
 abbrev pub invariant-loop-i : goal.invariant-loop-i
-invariant-loop-i l = record {
+invariant-loop-i g l = record {
   put : l.text.items ≡ l.initial.text.items ++ lines_of (label_at l.plan.labels) (room_in l.plan.corners) l.i;
   short : length l.text.items ≤ length l.initial.text.items + 36 * l.i;
 }

@@ -6,7 +6,7 @@ use Rattle.shapes.specs.Picture.{segments_drawn}
 use Rattle.picture.proofs.put_segments.Given as goal
 
 abbrev pub invariant-loop-k : goal.invariant-loop-k
-invariant-loop-k l = record {
+invariant-loop-k g l = record {
   put : l.text.items ≡ l.initial.text.items ++ segments_drawn (label_at l.plan.labels) (room_in l.plan.corners) l.plan.n (l.k - 1);
   short : length l.text.items ≤ length l.initial.text.items + 62 * (l.k - 1);
 }

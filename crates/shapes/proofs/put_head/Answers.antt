@@ -5,4 +5,4 @@ use Rattle.shapes.proofs.put_head.Goals as goal
 
 pub returns-clause-items : goal.returns-clause-items
 unfolding filled ℕ_discrete
-returns-clause-items c = rw c.from-inside.ensures at c.put_form.ensures.items
+returns-clause-items g c = rw c.from-inside.ensures at c.put_form.ensures.items

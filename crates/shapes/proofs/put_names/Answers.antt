@@ -7,7 +7,7 @@ use Rattle.shapes.proofs.put_names.Goals as goal
 
 pub returns-clause-items : goal.returns-clause-items
 unfolding filled ℕ_discrete
-returns-clause-items c =
+returns-clause-items g c =
     (rw c.short_side-size.ensures at c.put_form.ensures.items)
     ∙ λ t. c.args.text.now.items
     ++ names (c.from-n.ensures t) (c.from-position.ensures t) ((c.from-label.ensures ∙ c.label.ensures) t) (c.room-room.ensures.value t)

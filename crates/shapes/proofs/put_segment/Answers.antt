@@ -12,7 +12,7 @@ falls h e f rises = omega arith
 
 pub returns-else-first-second-clause-items : goal.returns-else-first-second-clause-items
 unfolding filled ℕ_discrete
-returns-else-first-second-clause-items c =
+returns-else-first-second-clause-items g c =
     let before : List ℕ = c.args.text.now.items in
     let later = rw add-one at c.room-later.ensures.value in
     let falling = falls c.if-first-second.false c.label-first.ensures (rw add-one at c.label-second.ensures) in

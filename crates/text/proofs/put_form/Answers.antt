@@ -6,12 +6,12 @@ use Rattle.text.proofs.put_form.Goals as goal
 use Rattle.text.proofs.put_form.Goals.{in-len1-up, in_default, in_default-via-then-left-lt1, in_default-via-in-len1-up+else-byte-eq37}
 
 pub put_number-requires : goal.put_number-requires
-put_number-requires c =
+put_number-requires g c =
     let short = decimal_short c.from.result (search rules) in
     omega (arith, c.loop-byte.invariant.short)
 
 pub loop-byte-preserved : goal.loop-byte-preserved
-loop-byte-preserved c =
+loop-byte-preserved g c =
     let filling = c.loop-byte.invariant in
     elim c.if-left-lt1.branch [
       | in-len1-up w ↦
@@ -25,4 +25,4 @@ loop-byte-preserved c =
     ]
 
 pub returns-clause-items : goal.returns-clause-items
-returns-clause-items c = all_put c.loop-byte.invariant (omega arith)
+returns-clause-items g c = all_put c.loop-byte.invariant (omega arith)

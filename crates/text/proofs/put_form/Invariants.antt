@@ -2,4 +2,4 @@ use Rattle.text.specs.Filled.{Filling}
 use Rattle.text.proofs.put_form.Given as goal
 
 abbrev pub invariant-loop-byte : goal.invariant-loop-byte
-invariant-loop-byte l = Filling l.initial.text.items l.form l.numbers l.text.items l.left l.byte-index
+invariant-loop-byte g l = Filling l.initial.text.items l.form l.numbers l.text.items l.left l.byte-index
