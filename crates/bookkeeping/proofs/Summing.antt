@@ -48,20 +48,6 @@ pub record Summing (bytes : List ℕ) (place : ℕ) (s : Summary) : Type 0 where
   pub rooms_few : s.rooms ≤ 255 * s.plans
   pub parts : s.rises + s.falls + s.plans ≡ s.rooms
 
-pub summing_first : (bytes : List ℕ) → Summing bytes 0 (held 0 0 0 0)
-summing_first bytes = record {
-  inside = omega arith;
-  bad_on = λ b. b;
-  good_on = λ g. g;
-  plans_on = omega arith;
-  rooms_on = omega arith;
-  rises_on = omega arith;
-  falls_on = omega arith;
-  plans_few = omega arith;
-  rooms_few = omega arith;
-  parts = omega arith;
-}
-
 module _ {bytes : List ℕ} {place : ℕ} {s : Summary} (now : Summing bytes place s) where
   -- at the end of the bytes all are summed up
   pub summing_end : ¬ (place < length bytes) → GoodBook bytes × (s ≡ summary_of bytes)

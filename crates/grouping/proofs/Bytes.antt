@@ -2,7 +2,7 @@
 use mathlib.Core.Bool.{not}
 use mathlib.Core.List.{List}
 use mathlib.Core.Logic.{◌≢◌, inl, inr}
-use mathlib.Core.Path.{◌≡◌, refl, sym, ap, subst, ◌∙◌}
+use mathlib.Core.Path.{◌≡◌, sym, ap, subst, ◌∙◌}
 use Prim.Native.Nat.{ℕ, ◌+◌, ◌-◌, ◌*◌, ◌/◌, ◌%◌, ◌<◌, zero-le}
 use native.Mathlib.Omega.{arith}
 use lib.Bits.{bit_and, bit_or, and_le_l, and_le_r, or_add_and}
@@ -62,13 +62,6 @@ pub record Looked (first second : List ℕ) (i both : ℕ) : Type 0 where
   pub small : (at : ℕ) → at < i → shared_at first second at < 256
   pub some : both ≢ 0 → SharedBefore first second i
   pub none : both ≡ 0 → ¬ SharedBefore first second i
-
-pub looked_none : (first second : List ℕ) → Looked first second 0 0
-looked_none first second = record {
-  small = λ at h. absurd (omega arith);
-  some = λ not. absurd (not refl);
-  none = λ e (at, a, b, not). omega arith;
-}
 
 pub looked_more : (first second : List ℕ) (i both here : ℕ) → Looked first second i both → here ≡ shared_at first second i → here < 256
     → Looked first second (i + 1) (bit_or both here)

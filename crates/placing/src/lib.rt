@@ -29,6 +29,8 @@ pub fn lowest(body: &[u8], widths: &[u16], heights: &[u16], x: &mut [u32], y: &m
     ensures upward { LowestFor (label_at (labels_in body.now (length widths.now))) upward
         (length widths.now) heights.now y.old result.up y.new }
 {
+    // Four arrays and two counts, as in the two walks like this one (`holding`, `relating`): their lines have other widths, and are met
+    // between other tests.
     let mut across_below = [0u32; 256];
     let mut across_above = [0u32; 256];
     let mut up_below = [0u32; 256];

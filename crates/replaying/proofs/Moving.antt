@@ -8,7 +8,7 @@ use Rattle.record.specs.Triple.{Triple}
 use Rattle.record.specs.declared.Refusal.TheVariants.{BadMove}
 use Rattle.traces.specs.Move.{add, unknown, moves_of}
 use Rattle.traces.specs.Cause.{bad_move}
-use Rattle.std.specs.Prelude.{Result, Ok, Err}
+use Rattle.std.specs.Prelude.{Ok, Err}
 use Rattle.record.specs.declared.Refusal.{Refusal}
 use Rattle.replaying.specs.declared.Plan.{Plan}
 use Rattle.replaying.specs.declared.Turn.TheVariants.{Added, Back}

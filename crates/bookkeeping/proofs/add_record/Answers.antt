@@ -1,7 +1,4 @@
 -- `bookkeeping::add_record` meets its contract: what was admitted is appended and added to the summary, and what was refused changes nothing.
-use mathlib.Core.List.{List}
-use mathlib.Core.Path.{sym, subst}
-use Prim.Native.Nat.{ℕ}
 use Rattle.std.proofs.lemmas.Result.{err_from_is_err_and}
 use Rattle.bookkeeping.proofs.Added.{adds, changes_nothing}
 use Rattle.bookkeeping.proofs.add_record.Goals as goal

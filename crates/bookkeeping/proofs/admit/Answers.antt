@@ -1,12 +1,11 @@
 -- `bookkeeping::admit` meets its contract: each answer is given with its cause.
-use mathlib.Core.Path.{◌≡◌, ap, sym, ◌∙◌}
+use mathlib.Core.Path.{sym, ◌∙◌}
 use native.Mathlib.Omega.{arith}
 use Rattle.std.proofs.lemmas.Result.{err_from_is_err_and}
 use Rattle.std.specs.Prelude.{Err, take}
 use Rattle.book.specs.Demand1.{Fits, Own, AddSays, beyond, long, bad_book, other, bad_record, too_long, short}
 use Rattle.book.specs.declared.BookError.{BookError}
 use Rattle.book.specs.declared.BookError.TheVariants.{BadRecord, Refused}
-use Rattle.bookkeeping.specs.declared.Totals.{Totals}
 use Rattle.bookkeeping.specs.Found.{SumsUp, summary_in}
 use Rattle.bookkeeping.proofs.Summing.{rises_left}
 use Rattle.bookkeeping.proofs.Compared.{same_summary, other_summary}

@@ -1,6 +1,5 @@
 -- `replaying::trace` meets its contract: too long, stopped, too short a slice, or written.
 use native.Mathlib.Omega.{arith}
-use Rattle.std.proofs.lemmas.Result.{err_from_is_err_and}
 use Rattle.replaying.proofs.Whole.{ended_leads, written_whole}
 use Rattle.replaying.proofs.trace.Goals as goal
 

@@ -1,6 +1,5 @@
 -- `replaying::Plan::made` meets its contract: a move that is none, a room added, or a move that goes back.
-use mathlib.Core.Path.{◌≡◌, refl, sym, ◌∙◌}
-use Prim.Native.Nat.{◌≤◌}
+use mathlib.Core.Path.{refl, sym, ◌∙◌}
 use native.Mathlib.Omega.{arith}
 use Rattle.std.proofs.lemmas.Result.{err_from_is_err_and}
 use Rattle.record.specs.TripleNumber.{triple_of}
