@@ -1,7 +1,7 @@
 -- `encoding::encode` meets its contract. Between two turns the labels passed are those of Passed, which also says when a label is turned
 -- away and what the next turn leaves. The turns go in eights: 8m + i triples are set.
-use mathlib.Core.Path.{◌≡◌, ◌∙◌}
-use Prim.Native.Nat.{◌+◌, ◌-◌, ◌*◌, ◌<◌}
+use mathlib.Core.Path.{◌≡◌, ◌∙◌, subst}
+use Prim.Native.Nat.{ℕ, ◌+◌, ◌-◌, ◌*◌, ◌<◌}
 use native.Mathlib.Omega.{arith}
 use borrow.Author.Rules.{rules}
 use lib.ListN.{length, get_or}
@@ -36,7 +36,9 @@ marked c = (
 triple_set : (c : After-set_triple)
     → TripleSet c.loop-i.«record» c.set_triple.new.record (8 * c.loop-m.m + c.loop-i.i + 2)
     (triple_of (4 * c.mark_of-first_bit.result + 2 * c.mark_of-second_bit.result + c.from-third_bit.result))
-triple_set c = rw (← c.triple_number-triple.ensures.0) c.set_triple.ensures
+triple_set c =
+    subst (λ (number : ℕ). TripleSet c.loop-i.«record» c.set_triple.new.record (8 * c.loop-m.m + c.loop-i.i + 2) (triple_of number))
+    c.triple_number-triple.ensures.0 c.set_triple.ensures
 
 -- the label is taken
 taken : (c : Else-past_runs)
