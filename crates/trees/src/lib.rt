@@ -31,7 +31,8 @@ fn stands_before(cut: Cut, one: u8, other: u8) -> bool
     }
 }
 
-// The place of a room of a block in the order of a cut, by its label: one of the block's positions.
+// The place of a room of a block in the order of a cut, by its label: one of the block's positions. Here and below a block goes as three
+// numbers, `from`, `to` and `lowest`: as a struct they took 7 in 100 more time for a tree.
 fn place(labels: &[u8], from: usize, to: usize, lowest: usize, cut: Cut, position: usize) -> usize
     requires { BlockOf labels.now from to lowest × (from ≤ position) × (position < to) }
     ensures { (result ≡ place_of cut from to lowest (label_at labels.now position)) × (result < to) }
