@@ -12,7 +12,8 @@ abbrev pub end_at : (ℕ → Triple) → (n : ℕ) → Way → (i : ℕ) → ℕ
 end_at triples n way i = (entered_but triples n (n - suc i)).current way
 
 -- from index a on, a slice has the labels and the rooms have their rights and tops; before that all three are as they were
-pub record Written (triples : ℕ → Triple) (n a : ℕ) (labels₀ : List ℕ) (corners₀ : Corners) (labels : List ℕ) (corners : Corners) : Type 0 where
+pub record Written (triples : ℕ → Triple) (n a : ℕ) (labels₀ : List ℕ) (corners₀ : Corners) (labels : List ℕ) (corners : Corners)
+    : Type 0 where
   pub labels_are : Filling (λ i. label_of triples n (suc i)) a n labels₀ labels
   pub rights_are : Filling (end_at triples n up) a n corners₀.right corners.right
   pub tops_are : Filling (end_at triples n down) a n corners₀.top corners.top

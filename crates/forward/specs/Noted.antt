@@ -10,5 +10,6 @@ use Rattle.steps.specs.declared.Runs.{Runs}
 
 abbrev pub Noted : Option Runs → (ℕ → Triple) → (n : ℕ) → Notes → Corners → Type 0
 Noted (Some runs) triples n notes corners =
-    Unpacked triples n notes.triples × Lowers triples n notes.lower × Starts down triples n corners.left × Starts up triples n corners.bottom
+    Unpacked triples n notes.triples × Lowers triples n notes.lower
+    × Starts down triples n corners.left × Starts up triples n corners.bottom
 Noted None triples n notes corners = Unit

@@ -29,7 +29,8 @@ pub record Ready (bytes : List ℕ) (n : ℕ) (notes : Notes) : Type 0 where
   pub lowers : Lowers (triples_of bytes) n notes.lower
 
 abbrev pub Reads : Result ℕ Refusal → (bytes : List ℕ) → Notes → Corners → Type 0
-Reads (Ok n) bytes notes corners = Ready bytes n notes × Starts down (triples_of bytes) n corners.left × Starts up (triples_of bytes) n corners.bottom
+Reads (Ok n) bytes notes corners =
+    Ready bytes n notes × Starts down (triples_of bytes) n corners.left × Starts up (triples_of bytes) n corners.bottom
 Reads (Err refusal) bytes notes corners = Unit
 
 -- a slice of labels, and the rooms' rights and tops, are left as they were
@@ -37,7 +38,8 @@ abbrev pub Left : (labels₀ : List ℕ) → (corners₀ : Corners) → (labels 
 Left labels₀ corners₀ labels corners = (labels ≡ labels₀) × (corners.right ≡ corners₀.right) × (corners.top ≡ corners₀.top)
 
 -- what is left of the record by a call with a slice for its labels, that asks for them, the rights and the tops from an earliest index on
-pub record Given (bytes : List ℕ) (n earliest : ℕ) (labels₀ : List ℕ) (corners₀ : Corners) (labels : List ℕ) (corners : Corners) : Type 0 where
+pub record Given (bytes : List ℕ) (n earliest : ℕ) (labels₀ : List ℕ) (corners₀ : Corners) (labels : List ℕ) (corners : Corners)
+    : Type 0 where
   pub kind : n ≡ kind_of bytes
   pub some : 1 ≤ n
   pub few : n ≤ 255
@@ -47,6 +49,7 @@ pub record Given (bytes : List ℕ) (n earliest : ℕ) (labels₀ : List ℕ) (c
   pub long : n ≤ length labels₀ → earliest < n → Written (triples_of bytes) n earliest labels₀ corners₀ labels corners
   pub short : length labels₀ < n → Left labels₀ corners₀ labels corners
 
-abbrev pub Leaves : Result ℕ Refusal → (bytes : List ℕ) (earliest : ℕ) (labels₀ : List ℕ) (corners₀ : Corners) (labels : List ℕ) (corners : Corners) → Type 0
+abbrev pub Leaves : Result ℕ Refusal → (bytes : List ℕ) (earliest : ℕ) (labels₀ : List ℕ) (corners₀ : Corners) (labels : List ℕ)
+    → (corners : Corners) → Type 0
 Leaves (Ok n) bytes earliest labels₀ corners₀ labels corners = Given bytes n earliest labels₀ corners₀ labels corners
 Leaves (Err refusal) bytes earliest labels₀ corners₀ labels corners = Left labels₀ corners₀ labels corners
