@@ -9,7 +9,7 @@ use drawing::{Corners, Room};
 use record::{Label, Position};
 
 // The plan of a record: the labels and the corners of its rooms, by position. A record has 1 to 255 rooms, and they lie in the outline.
-// The clause that a position is one of the n stands in contracts and is no type: `Position` is the sheet's tuple struct, and n is the plan's.
+// That a position is one of the n stands in contracts and is no type: `Position` is the sheet's tuple struct, and n is the plan's.
 #[derive(Clone, Copy)]
 pub struct Plan {
     pub n: u8,
