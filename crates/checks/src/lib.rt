@@ -40,6 +40,8 @@ fn flat(lists: &CornerLists) -> bool
 }
 
 // ---- cause 3
+// That no room is without size is a clause of each function from here on, and no type: it is what cause 2 has found of the same lists, and a
+// type of its own for them would be taken off again at each call.
 
 // 1 where the first number is below the second, else 0.
 fn below(first: u16, second: u16) -> u16

@@ -14,7 +14,7 @@ use drawing::Room;
 use record::Refusal;
 use rooms::CornerLists;
 
-// The numbers of up to 255 rooms that were copied, each at its room's place. How many count goes beside them, since they may be too many.
+// The numbers of up to 255 rooms that were copied, each at its room's place. Their count stands beside them, since it may be more than 255.
 #[derive(Clone, Copy)]
 pub struct CopiedRooms {
     pub left: [u16; 255],

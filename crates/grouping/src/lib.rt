@@ -16,17 +16,15 @@ use relating::Seen;
 
 // ---- the extremes of a group's positions
 
-// How many bytes of a group there are up to the last that is not 0.
+// How many bytes of a group there are up to the last that is not 0. This and `bytes_unused` look from one end each, and so do the two that
+// use them: one function over the direction would ask for it in each turn.
 fn bytes_used(group: &[u8; 32]) -> usize
     ensures { (result ≤ 32) × EachIn group.now (λ k. k ≤ 8 * result) }
 {
-    let mut used = 32;
-    // A while: it counts down to the answer itself.
-    while 0 < used {
-        if group[used - 1] != 0 {
-            return used;
+    for i in (0..32).rev() {
+        if group[i] != 0 {
+            return i + 1;
         }
-        used -= 1;
     }
     0
 }
@@ -35,13 +33,10 @@ fn bytes_used(group: &[u8; 32]) -> usize
 fn last_position(group: &[u8; 32]) -> Option<usize>
     ensures { LastIn group.now result }
 {
-    let mut k = 8 * bytes_used(group);
-    // A while: it counts down to the answer itself.
-    while 0 < k {
-        if relating::member(group, k - 1) == 1 {
-            return Some(k);
+    for i in (0..8 * bytes_used(group)).rev() {
+        if relating::member(group, i) == 1 {
+            return Some(i + 1);
         }
-        k -= 1;
     }
     None
 }
@@ -86,10 +81,7 @@ fn all_after(group: &[u8; 32], last: usize) -> bool
 fn outside(n: usize, last: Option<usize>) -> bool
     ensures { Tells result (Past n last) }
 {
-    match last {
-        Some(last) => n < last,
-        None => false,
-    }
+    last.is_some_and(|last| n < last)
 }
 
 // The bits that two bytes have in common.

@@ -104,6 +104,7 @@ pub fn twice(names: &[u16]) -> bool
 // ---- names by position
 
 // The names of the rooms by position, from the front of a slice, from the names in list order and the rooms' places by position.
+// As `label_list` of orders does with labels: the loop is two lines, and what each of the two states is said by a definition of its own.
 pub fn by_position(names: &[u16], by: &[u8], list: &mut [u16])
     requires places { (length by.now ≤ length names.now) × (length by.now ≤ length list.old) }
     requires rooms_in_bounds { (k : ℕ) → k < length by.now → get_or by.now k 0 < length by.now }

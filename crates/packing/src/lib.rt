@@ -56,6 +56,7 @@ fn admit(
 }
 
 // ---- the three calls
+// Widths, heights, x and y are lent by C one by one, and go on so.
 
 // The lowest corners of the rooms by position, from the front of two slices; or the refusal, and the slices as they were.
 pub fn lowest_corners(

@@ -8,8 +8,8 @@ ghost use Rattle.rooms.specs.Corners.{OneLength, corners_at};
 
 use drawing::Room;
 
-// The corners of 1 to 255 rooms in four lists of one length, each corner at its room's place. A list of one side's corners is what the
-// compiler looks at several rooms at a time in.
+// The corners of 1 to 255 rooms in four lists of one length, each corner at its room's place. Where one side's corners stand in a list, the
+// compiler looks at several rooms at a time.
 #[derive(Clone, Copy)]
 pub struct CornerLists<'a> {
     pub left: &'a [u16],
