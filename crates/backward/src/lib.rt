@@ -28,7 +28,7 @@ pub fn walk(
     ensures written { Written (triple_in body.now) n earliest labels.old corners.old labels.new corners.new }
     ensures kept { (corners.new.left ≡ corners.old.left) × (corners.new.bottom ≡ corners.old.bottom) }
 {
-    // Four stacks in arrays of their own: a side's two have one height, its count of runs, which a struct of both would hold once more.
+    // Four stacks in arrays of their own, and no pairs: a turn reads a side's two at different heights.
     let mut below = [0u8; 255];
     let mut above = [0u8; 255];
     let mut tops = [0u8; 255];

@@ -106,7 +106,7 @@ pub fn next_code(answer: Result<Option<usize>, BookError>) -> i32
     }
 }
 
-// The number of an answer of adding to a book.
+// The number of an answer of adding to a book. As `size_code`, with the error of a book: one function over both errors would want a trait.
 pub fn add_code(answer: Result<usize, BookError>) -> i32
     requires { AddFits answer }
     ensures { result ≡ add_code answer }

@@ -107,7 +107,7 @@ pub fn side_of(labels: &[u8], first: Position, second: Position) -> Side
 
 // Whether the stretch from `from` to `to` and the one from `low` to `high`, both within 0 to n, have an end in common on one of the lines
 // 1 to n - 1. A line on which one starts and the other ends is one of these; where both start, or both end, may be the outline. All of it
-// is looked at, since no jump here can be foreseen.
+// is looked at, since no jump here can be foreseen. The stretches are numbers, two each: a type for them would be taken apart at once.
 fn share_end(n: usize, from: u16, to: u16, low: u16, high: u16) -> bool
     requires { (from < to) × (to ≤ n) × (low < high) × (high ≤ n) }
     ensures { Tells result (InnerLineOf n low high from ⊎ InnerLineOf n low high to) }

@@ -13,14 +13,15 @@ use steps::{Notes, Runs};
 // The walk, with the size and the newest position of each run: a stack of each for the runs below and one for those above, the
 // nearest run's on top. Each turn pushes the current run's on both; the counts of runs say how much of a stack is in use. The
 // triples are noted by their numbers; of each position, how many labels of its run lie below it is noted, and the newest
-// positions in the runs next below and next above its label, which are its room's left and bottom. None where a run is missing.
+// positions in the runs next below and next above its label, which are its room's left and bottom. None where a run is missing. The body and
+// its count of rooms are two parameters, here and in the other walks, since each of these asks another fact of the two.
 pub fn walk(body: &[u8], n: usize, notes: &mut Notes, corners: &mut Corners) -> Option<Runs>
     requires { (1 ≤ n) × (n ≤ 255) × (length body.now ≡ body_length n) }
     ensures counts { end_counts result ≡ walk (triple_in body.now) (n - 1) }
     ensures noted { Noted result (triple_in body.now) n notes.new corners.new }
     ensures kept { (corners.new.right ≡ corners.old.right) × (corners.new.top ≡ corners.old.top) }
 {
-    // Four stacks in arrays of their own: a side's two have one height, its count of runs, which a struct of both would hold once more.
+    // Four stacks in arrays of their own, and no pairs: a turn reads a side's sizes and its newest positions at different heights.
     let mut below = [0u8; 255];
     let mut above = [0u8; 255];
     let mut newest_below = [0u8; 255];

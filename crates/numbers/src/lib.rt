@@ -154,7 +154,7 @@ pub fn read(line: &[u8], list: &mut [u8; 256]) -> Result<usize, Refusal>
     let mut rows = [0u64; 256];
     fill(&mut rows);
     let table = Table { rows: &rows };
-    // A buffer with a count, since there is no heap; what follows takes the part of it that is in use.
+    // A buffer with a count: a place is noted at each byte, and only where a number begins the count goes on, so that there is no branch.
     let mut starts = [0u16; 256];
     let mut place = START;
     let mut count = 0;

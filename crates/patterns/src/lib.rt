@@ -14,7 +14,7 @@ pub enum Condition {
 }
 
 impl Condition {
-    // The condition's number.
+    // The condition's number. Refusals and cuts have one too, each by a cast, over which a trait would be longer.
     pub fn number(self) -> u8
         ensures { (result ≡ condition_number self) × (result ≤ 2) }
     {

@@ -17,7 +17,8 @@ pub struct Turn {
     pub falls: usize,
 }
 
-// A triple's three bits, of which the first is worth 4, taken apart.
+// A triple's three bits, of which the first is worth 4, taken apart. A triple is its number from 0 to 7, which the eight steps match on, and
+// no type of its own: so each function that takes one asks that it is below 8.
 pub fn turn_of(triple: u8) -> Turn
     requires { triple < 8 }
     ensures { Says (triple_of triple) result }

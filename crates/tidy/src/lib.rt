@@ -118,7 +118,7 @@ pub fn tidy(text: &[u8], tidy: &mut [u8]) -> Result<usize, Refusal>
     if LONGEST < text.len() {
         return Err(Refusal::TextForm);
     }
-    // A buffer, since there is no heap; the labels are the part of it that is read.
+    // A buffer, which the reader fills by index; the labels are the part of it that was filled.
     let mut list = [0u8; 256];
     let count = numbers::read(line_of(text), &mut list)?;
     tidy_labels(&list[..count], tidy)
