@@ -33,7 +33,8 @@ fn turn(links: &[u16], count: usize, turned: &mut [u16])
 }
 
 // The rooms by position, from the first one by the links `up`, and by label, from the first one by the links `down`. A step of the one walk
-// waits for a load, so the other goes beside it. The two slices are one for each order, and each is used alone after this. The corners are not looked at; they say how far the walks have come.
+// waits for a load, so the other goes beside it. The two slices are one for each order, and each is used alone after this. The corners are
+// not looked at; they say how far the walks have come.
 fn walk(
     lists: &CornerLists,
     up: &[u16],
