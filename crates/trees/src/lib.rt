@@ -108,7 +108,8 @@ fn part_end(labels: &[u8], from: usize, to: usize, lowest: usize, cut: Cut) -> O
 }
 
 // Puts the trees of the blocks into which the lines of a cut part some rooms: a leaf, a node that is cut the other way, or several. None
-// where the rooms have no such trees.
+// where the rooms have no such trees. They are put by index, and not to the end of a vector: a node's count stands before its children, and is
+// known after them.
 #[cycle(put_blocks_put_part)]
 fn put_part(
     labels: &[u8],
