@@ -8,7 +8,7 @@ import glob
 import re
 import sys
 
-KEPT = {"let", "mut", "if", "else", "while", "for", "in", "return", "match", "T", "N", "true", "false", "self", "as", "len"}
+KEPT = set("let mut if else while for in return match T N true false self as len".split())
 
 
 def body_at(text, start):
