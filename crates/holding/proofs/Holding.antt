@@ -1,7 +1,7 @@
 -- The walk that holds a placing against the relations: so far no room begins before the furthest room before it ends.
 use mathlib.Core.List.{List}
 use mathlib.Core.Logic.{inl, inr}
-use mathlib.Core.Path.{◌≡◌, sym, ap, subst, ◌∙◌}
+use mathlib.Core.Path.{◌≡◌, refl, sym, ap, subst, ◌∙◌}
 use Prim.Native.Nat.{ℕ, suc, ◌+◌, ◌-◌, ◌≤◌, ◌<◌, max}
 use native.Mathlib.Omega.{arith}
 use native.Mathlib.Numerals.{add-one}
@@ -19,8 +19,10 @@ use Rattle.sizes.specs.Placing.{Honours}
 use Rattle.sizes.specs.Lists.{each_way, number_at, HonoursAll}
 use Rattle.judging.specs.Walkable.{labels_in, Walkable}
 use Rattle.sizes.proofs.OneWay.{Walks, accepted_walks}
-use Rattle.sizes.proofs.Turned.{TurnFits, Turned, turned_first, turn_fits, turned_next, left_is, bottom_is}
+use Rattle.sizes.proofs.Turned.{Turned, turned_first, turn_fits, turned_next, left_is, bottom_is}
 use Rattle.placing.specs.Along.{label, size_of}
+use Rattle.placing.specs.Room.{HasRoom}
+use Rattle.placing.proofs.Rooms.{has_room}
 
 module _ (body widths heights xs ys : List ℕ) where
   abbrev n : ℕ
@@ -61,6 +63,11 @@ module _ (body widths heights xs ys : List ℕ) where
           (λ i c l p. absurd (omega (arith, before→earlier (label body widths heights) way p))) in omega arith;
     }
 
+    pub holding_begun : {xb xa yb ya : List ℕ} {right top : ℕ} → xb ≡ replicate 256 0 → xa ≡ replicate 256 0 → yb ≡ replicate 256 0 → ya ≡ replicate 256 0
+        → right ≡ get_or xs 0 0 + get_or widths 0 0 → top ≡ get_or ys 0 0 + get_or heights 0 0 → Holding 0 xb xa yb ya 0 0 right top
+    holding_begun {right = right} {top} e_xb e_xa e_yb e_ya e d =
+        subst (λ (T : Type 0). T) (λ i. Holding 0 (sym e_xb i) (sym e_xa i) (sym e_yb i) (sym e_ya i) 0 0 right top) (holding_first e d)
+
     pub holding_end : {k : ℕ} {xb xa yb ya : List ℕ} {p q right top : ℕ} → Holding k xb xa yb ya p q right top → length widths ≤ k + 1 → (way : Direction) → Honoured way
     holding_end now h way =
         furthest→honours (label body widths heights) way (size_of body widths heights way) n (corner_of way) (λ j a b. now.late way j a (omega arith))
@@ -92,8 +99,8 @@ module _ (body widths heights xs ys : List ℕ) where
       here_y : get_or ys (k + 1) 0 ≡ corner_of upward (suc (suc k))
       here_y = ap (λ (i : ℕ). get_or ys i 0) (add-one k)
 
-      pub holding_fits : TurnFits p q turn
-      holding_fits = turn_fits (size_of body widths heights) corner_of walks ok.accepted ok.few now.turned more turn says
+      pub holding_fits : HasRoom p q turn
+      holding_fits = has_room (turn_fits (size_of body widths heights) corner_of walks ok.accepted ok.few now.turned more turn says)
 
       -- it begins too early
       pub broken_across : {from : ℕ} → from ≡ get_or xs (k + 1) 0 → from < left → ¬ Honoured across
@@ -122,3 +129,22 @@ module _ (body widths heights xs ys : List ℕ) where
           new : (way : Direction) → Late way (suc (suc k))
           new across = omega (arith, here_x, at_left)
           new upward = omega (arith, here_y, at_bottom)
+
+      -- the same, of the stacks and the lines that a turn leaves
+      pub holding_turn : {xb1 xa1 yb1 ya1 : List ℕ} {p1 q1 l b beside under right-next top-next : ℕ} (from up : ℕ)
+          → xb1 ≡ set xb (p + 1) right → xa1 ≡ set xa (q + 1) right → yb1 ≡ set yb (p + 1) top → ya1 ≡ set ya (q + 1) top
+          → p1 ≡ p + turn.rises - turn.below → q1 ≡ q + turn.falls - turn.above
+          → l ≡ get_or xb1 (p + turn.rises) 0 → b ≡ get_or ya1 (q + turn.falls) 0
+          → beside ≡ get_or xa1 (either turn.above (q + turn.falls) 0) 0 → under ≡ get_or yb1 (either turn.below (p + turn.rises) 0) 0
+          → from ≡ get_or xs (k + 1) 0 → up ≡ get_or ys (k + 1) 0 → l ≤ from → b ≤ up
+          → right-next ≡ max (get_or xs (k + 1) 0 + get_or widths (k + 1) 0) beside → top-next ≡ max (get_or ys (k + 1) 0 + get_or heights (k + 1) 0) under
+          → Holding (k + 1) xb1 xa1 yb1 ya1 p1 q1 right-next top-next
+      holding_turn {right-next = right-next} {top-next} from up e_xb e_xa e_yb e_ya e_p e_q e_l e_b e_beside e_under from_is up_is late-x late-y moved-x moved-y =
+          subst (λ (T : Type 0). T)
+          (λ i. Holding (k + 1) (sym e_xb i) (sym e_xa i) (sym e_yb i) (sym e_ya i) (sym e_p i) (sym e_q i) right-next top-next)
+          (holding_next from up _ _ right-next top-next from_is up_is
+          (omega (arith, late-x, e_l ∙ (λ i. get_or (e_xb i) (p + turn.rises) 0)))
+          (omega (arith, late-y, e_b ∙ (λ i. get_or (e_ya i) (q + turn.falls) 0)))
+          refl refl
+          (moved-x ∙ (λ i. max (get_or xs (k + 1) 0 + get_or widths (k + 1) 0) ((e_beside ∙ (λ j. get_or (e_xa j) (either turn.above (q + turn.falls) 0) 0)) i)))
+          (moved-y ∙ (λ i. max (get_or ys (k + 1) 0 + get_or heights (k + 1) 0) ((e_under ∙ (λ j. get_or (e_yb j) (either turn.below (p + turn.rises) 0) 0)) i))))

@@ -1,6 +1,6 @@
 -- The walk that puts the lowest corners: so far each room starts where the furthest room before it ends.
 use mathlib.Core.List.{List}
-use mathlib.Core.Path.{◌≡◌, sym, ap, subst, ◌∙◌}
+use mathlib.Core.Path.{◌≡◌, refl, sym, ap, subst, ◌∙◌}
 use Prim.Native.Nat.{ℕ, zero, suc, ◌+◌, ◌-◌, ◌*◌, ◌≤◌, ◌<◌, max}
 use native.Mathlib.Omega.{arith}
 use native.Mathlib.Numerals.{add-one}
@@ -17,8 +17,10 @@ use Rattle.sizes.proofs.Lines.{LineAt, line_of_all}
 use Rattle.judging.specs.Walkable.{Walkable}
 use Rattle.placing.specs.Along as along
 use Rattle.placing.specs.Along.{LowestFor}
+use Rattle.placing.specs.Room.{HasRoom}
+use Rattle.placing.proofs.Rooms.{has_room}
 use Rattle.sizes.proofs.OneWay.{Walks, accepted_walks}
-use Rattle.sizes.proofs.Turned.{TurnFits, Turned, turned_first, turn_fits, turned_next, left_is, bottom_is}
+use Rattle.sizes.proofs.Turned.{Turned, turned_first, turn_fits, turned_next, left_is, bottom_is}
 
 module _ (body widths heights : List ℕ) where
   abbrev pub rooms : ℕ
@@ -52,6 +54,12 @@ module _ (body widths heights : List ℕ) where
       ys = filling_none (λ i. lowest_of upward (suc i)) 1 y₀;
     }
 
+    pub lowering_begun : {xb xa yb ya : List ℕ} {p q right top : ℕ} → xb ≡ replicate 256 0 → xa ≡ replicate 256 0 → yb ≡ replicate 256 0 → ya ≡ replicate 256 0
+        → p ≡ 0 → q ≡ 0 → right ≡ get_or widths 0 0 → top ≡ get_or heights 0 0 → Lowering x₀ y₀ 0 x₀ y₀ xb xa yb ya p q right top
+    lowering_begun {right = right} {top} e_xb e_xa e_yb e_ya e_p e_q e d =
+        subst (λ (T : Type 0). T) (λ i. Lowering x₀ y₀ 0 x₀ y₀ (sym e_xb i) (sym e_xa i) (sym e_yb i) (sym e_ya i) (sym e_p i) (sym e_q i) right top)
+        (lowering_first e d)
+
     module _ {k : ℕ} {x y xb xa yb ya : List ℕ} {p q right top : ℕ} (now : Lowering x₀ y₀ k x y xb xa yb ya p q right top) (next : k + 1 < length widths)
         (turn : Turn) (says : Says (triple_in body (suc (suc k))) turn) where
       walks : Walks (triple_in body) rooms label
@@ -72,8 +80,8 @@ module _ (body widths heights : List ℕ) where
       starts_bottom : lowest_of upward (suc (suc k)) ≡ bottom
       starts_bottom = starts_at_furthest_end label upward (size_of upward) rooms (suc (suc k)) more ∙ bottom_is size_of lowest_of walks ok.accepted ok.few now.turned more turn says
 
-      pub lowering_fits : TurnFits p q turn
-      lowering_fits = turn_fits size_of lowest_of walks ok.accepted ok.few now.turned more turn says
+      pub lowering_fits : HasRoom p q turn
+      lowering_fits = has_room (turn_fits size_of lowest_of walks ok.accepted ok.few now.turned more turn says)
 
       -- a start is far from the largest 32-bit number
       module _ (small-x : (i : ℕ) → get_or widths i 0 < 65536) (small-y : (i : ℕ) → get_or heights i 0 < 65536) where
@@ -102,6 +110,33 @@ module _ (body widths heights : List ℕ) where
         xs = filling_up left now.xs (omega arith) (omega arith) (sym starts_left ∙ ap (λ (i : ℕ). lowest_of across (suc i)) (sym (add-one k)));
         ys = filling_up bottom now.ys (omega arith) (omega arith) (sym starts_bottom ∙ ap (λ (i : ℕ). lowest_of upward (suc i)) (sym (add-one k)));
       }
+
+      -- the same, of the stacks and the lines that a turn leaves
+      pub lowering_turn : {xb1 xa1 yb1 ya1 : List ℕ} {p1 q1 l b beside under right-next top-next : ℕ}
+          → xb1 ≡ set xb (p + 1) right → xa1 ≡ set xa (q + 1) right → yb1 ≡ set yb (p + 1) top → ya1 ≡ set ya (q + 1) top
+          → p1 ≡ p + turn.rises - turn.below → q1 ≡ q + turn.falls - turn.above
+          → l ≡ get_or xb1 (p + turn.rises) 0 → b ≡ get_or ya1 (q + turn.falls) 0
+          → beside ≡ get_or xa1 (either turn.above (q + turn.falls) 0) 0 → under ≡ get_or yb1 (either turn.below (p + turn.rises) 0) 0
+          → right-next ≡ max (l + get_or widths (k + 1) 0) beside → top-next ≡ max (b + get_or heights (k + 1) 0) under
+          → Lowering x₀ y₀ (k + 1) (set x (k + 1) l) (set y (k + 1) b) xb1 xa1 yb1 ya1 p1 q1 right-next top-next
+      lowering_turn {xb1} {xa1} {yb1} {ya1} {p1} {q1} {l} {b} {beside} {under} {right-next} {top-next} e_xb e_xa e_yb e_ya e_p e_q e_l e_b e_beside e_under moved-x moved-y =
+          subst (λ (T : Type 0). T)
+          (λ i. Lowering x₀ y₀ (k + 1) (set x (k + 1) (sym is_l i)) (set y (k + 1) (sym is_b i)) (sym e_xb i) (sym e_xa i) (sym e_yb i) (sym e_ya i)
+          (sym e_p i) (sym e_q i) right-next top-next)
+          (lowering_next _ _ right-next top-next refl refl
+          (moved-x ∙ (λ i. max (is_l i + get_or widths (k + 1) 0) (is_beside i))) (moved-y ∙ (λ i. max (is_b i + get_or heights (k + 1) 0) (is_under i))))
+        where
+          is_l : l ≡ left
+          is_l = e_l ∙ (λ i. get_or (e_xb i) (p + turn.rises) 0)
+
+          is_b : b ≡ bottom
+          is_b = e_b ∙ (λ i. get_or (e_ya i) (q + turn.falls) 0)
+
+          is_beside : beside ≡ get_or (set xa (q + 1) right) (either turn.above (q + turn.falls) 0) 0
+          is_beside = e_beside ∙ (λ i. get_or (e_xa i) (either turn.above (q + turn.falls) 0) 0)
+
+          is_under : under ≡ get_or (set yb (p + 1) top) (either turn.below (p + turn.rises) 0) 0
+          is_under = e_under ∙ (λ i. get_or (e_yb i) (either turn.below (p + turn.rises) 0) 0)
 
     -- all rooms, and the first one's corners put last
     pub lowering_end : {k : ℕ} {x y xb xa yb ya : List ℕ} {p q right top : ℕ} → Lowering x₀ y₀ k x y xb xa yb ya p q right top → length widths ≤ k + 1
