@@ -5,7 +5,6 @@ ghost use Rattle.std.specs.Prelude.{◌≡◌, ◌++◌, ◌+◌, ◌*◌, ◌�
 ghost use Rattle.arrayvec.specs.ArrayVec.{array_vec_len};
 ghost use Rattle.record.specs.Labels.{label_at};
 ghost use Rattle.drawing.specs.Corners.{room_in};
-ghost use Rattle.text.specs.Memory.{InMemory};
 ghost use Rattle.text.specs.Shown.{shown};
 ghost use Rattle.listing.specs.Text.{line_of, lines_of, listing};
 
@@ -16,7 +15,6 @@ use text::{Plan, Text};
 #[tactic(auto, using(crate::specs::Lines::line_form))]
 fn put_line<const N: usize>(text: &mut Text<N>, plan: &Plan, position: Position)
     requires inside { (1 ≤ position.0) × (position.0 ≤ plan.now.n) }
-    requires size { InMemory N }
     requires fits { array_vec_len text.old + 36 ≤ N }
     ensures items { text.new.items ≡ text.old.items
         ++ line_of position.0 (label_at plan.now.labels position.0)
@@ -42,8 +40,7 @@ fn put_line<const N: usize>(text: &mut Text<N>, plan: &Plan, position: Position)
 // Puts the lines of all positions.
 #[tactic(auto, using(crate::specs::Lines::no_lines, crate::specs::Lines::one_line_more))]
 fn put_lines<const N: usize>(text: &mut Text<N>, plan: &Plan)
-    requires size { InMemory N }
-    requires fits { array_vec_len text.old + 36 * plan.now.n ≤ N }
+    requires { array_vec_len text.old + 36 * plan.now.n ≤ N }
     ensures items { text.new.items ≡ text.old.items ++ shown lines_of plan.now }
     ensures len { array_vec_len text.new ≤ array_vec_len text.old + 36 * plan.now.n }
 {
@@ -55,8 +52,7 @@ fn put_lines<const N: usize>(text: &mut Text<N>, plan: &Plan)
 // The listing of a plan.
 #[tactic(auto, unfolding(text::specs::Form::filled))]
 pub fn listing<const N: usize>(plan: &Plan) -> Text<N>
-    requires size { InMemory N }
-    requires fits { 9200 ≤ N }
+    requires { 9200 ≤ N }
     ensures { result.items ≡ shown listing plan.now }
 {
     let mut text = Text::new();

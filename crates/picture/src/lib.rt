@@ -3,7 +3,6 @@
 
 ghost use Rattle.std.specs.Prelude.{◌≡◌, ◌++◌, ◌+◌, ◌*◌, ◌≤◌};
 ghost use Rattle.arrayvec.specs.ArrayVec.{array_vec_len};
-ghost use Rattle.text.specs.Memory.{InMemory};
 ghost use Rattle.text.specs.Shown.{shown};
 ghost use Rattle.shapes.specs.Picture.{rooms, segments, picture};
 
@@ -13,8 +12,7 @@ use text::{Plan, Text};
 // Puts the rooms of a plan.
 #[tactic(auto, using(crate::specs::Drawn::no_rooms, crate::specs::Drawn::one_room_more))]
 fn put_rooms<const N: usize>(text: &mut Text<N>, plan: &Plan)
-    requires size { InMemory N }
-    requires fits { array_vec_len text.old + 154 * plan.now.n ≤ N }
+    requires { array_vec_len text.old + 154 * plan.now.n ≤ N }
     ensures items { text.new.items ≡ text.old.items ++ shown rooms plan.now }
     ensures len { array_vec_len text.new ≤ array_vec_len text.old + 154 * plan.now.n }
 {
@@ -28,8 +26,7 @@ fn put_rooms<const N: usize>(text: &mut Text<N>, plan: &Plan)
 // Puts the inner segments of a plan, one after each position but the last.
 #[tactic(auto, using(crate::specs::Drawn::no_segments, crate::specs::Drawn::one_segment_more))]
 fn put_segments<const N: usize>(text: &mut Text<N>, plan: &Plan)
-    requires size { InMemory N }
-    requires fits { array_vec_len text.old + 62 * plan.now.n ≤ N }
+    requires { array_vec_len text.old + 62 * plan.now.n ≤ N }
     ensures items { text.new.items ≡ text.old.items ++ shown segments plan.now }
     ensures len { array_vec_len text.new ≤ array_vec_len text.old + 62 * plan.now.n }
 {
@@ -41,8 +38,7 @@ fn put_segments<const N: usize>(text: &mut Text<N>, plan: &Plan)
 // The picture of a plan.
 #[tactic(auto, unfolding(text::specs::Form::filled))]
 pub fn picture<const N: usize>(plan: &Plan) -> Text<N>
-    requires size { InMemory N }
-    requires fits { 56000 ≤ N }
+    requires { 56000 ≤ N }
     ensures { result.items ≡ shown picture plan.now }
 {
     let mut text = Text::new();

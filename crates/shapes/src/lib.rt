@@ -7,7 +7,6 @@ ghost use Rattle.arrayvec.specs.ArrayVec.{array_vec_len};
 ghost use Rattle.record.specs.Labels.{label_at};
 ghost use Rattle.drawing.specs.Corners.{room_in};
 ghost use Rattle.contacts.specs.GridLine.{line_at};
-ghost use Rattle.text.specs.Memory.{InMemory};
 ghost use Rattle.shapes.specs.Picture.{short_side, rectangle, names, segment_drawn, head};
 
 use drawing::Room;
@@ -20,7 +19,6 @@ use text::{Plan, Text};
 #[tactic(auto, unfolding(text::specs::Form::filled))]
 pub fn put_rectangle<const N: usize>(text: &mut Text<N>, plan: &Plan, position: Position)
     requires inside { (1 ≤ position.0) × (position.0 ≤ plan.now.n) }
-    requires size { InMemory N }
     requires fits { array_vec_len text.old + 57 ≤ N }
     ensures items { text.new.items
         ≡ text.old.items ++ rectangle plan.now.n (room_in plan.now.corners position.0) }
@@ -51,7 +49,6 @@ fn short_side(room: Room) -> u16
 #[tactic(auto, unfolding(text::specs::Form::filled))]
 pub fn put_names<const N: usize>(text: &mut Text<N>, plan: &Plan, position: Position)
     requires inside { (1 ≤ position.0) × (position.0 ≤ plan.now.n) }
-    requires size { InMemory N }
     requires fits { array_vec_len text.old + 97 ≤ N }
     ensures items { text.new.items ≡ text.old.items
         ++ names plan.now.n position.0 (label_at plan.now.labels position.0)
@@ -80,7 +77,6 @@ pub fn put_names<const N: usize>(text: &mut Text<N>, plan: &Plan, position: Posi
 #[tactic(auto, unfolding(text::specs::Form::filled))]
 pub fn put_segment<const N: usize>(text: &mut Text<N>, plan: &Plan, k: u8)
     requires inside { (1 ≤ k) × (k < plan.now.n) }
-    requires size { InMemory N }
     requires fits { array_vec_len text.old + 62 ≤ N }
     ensures items { text.new.items ≡ text.old.items
         ++ segment_drawn plan.now.n
@@ -119,8 +115,7 @@ pub fn put_segment<const N: usize>(text: &mut Text<N>, plan: &Plan, k: u8)
 // Puts the head of the picture of n rooms, with the outline.
 #[tactic(auto, unfolding(text::specs::Form::filled))]
 pub fn put_head<const N: usize>(text: &mut Text<N>, n: u8)
-    requires size { InMemory N }
-    requires fits { array_vec_len text.old + 500 ≤ N }
+    requires { array_vec_len text.old + 500 ≤ N }
     ensures items { text.new.items ≡ text.old.items ++ head n }
     ensures len { array_vec_len text.new ≤ array_vec_len text.old + 500 }
 {

@@ -2,7 +2,6 @@
 pub mod Form
 pub mod View
 pub mod Shown
-pub mod Memory
 -- Laws
 pub mod Filled
 pub mod Viewed

@@ -9,7 +9,6 @@ ghost use Rattle.text.specs.Form.{filled};
 ghost use Rattle.record.specs.Checked.{Refuses};
 ghost use Rattle.text.specs.View.{refused_line};
 ghost use Rattle.text.specs.Shown.{IsPlanOf};
-ghost use Rattle.text.specs.Memory.{InMemory};
 
 mod record_plan;
 
@@ -19,16 +18,14 @@ use itoa::Buffer;
 use record::Refusal;
 pub use record_plan::Plan;
 
-// A program's whole text, of at most N bytes: each program gives the places for its longest. `InMemory N` in the contracts asks for nothing
-// more than the type does: no value in memory has 2 ^ 63 bytes.
+// A program's whole text, of at most N bytes: each program gives the places that its longest text takes.
 pub type Text<const N: usize> = ArrayVec<u8, N>;
 
 // Appends the digits of a number. Not by `write!`: its contract does not say that it succeeds where there is room, and the
 // programs' contracts state the whole text.
 #[tactic(auto, using(digits::specs::Digits::library_decimal))]
 fn put_number<const N: usize>(text: &mut Text<N>, number: u64)
-    requires size { InMemory N }
-    requires fits { array_vec_len text.old + length (decimal number) ≤ N }
+    requires { array_vec_len text.old + length (decimal number) ≤ N }
     ensures items { text.new.items ≡ text.old.items ++ decimal number }
     ensures len { array_vec_len text.new ≡ array_vec_len text.old + length (decimal number) }
 {
@@ -40,8 +37,7 @@ fn put_number<const N: usize>(text: &mut Text<N>, number: u64)
 // Appends a number that may be a large one, and ends the line.
 #[tactic(auto, using(digits::specs::Digits::decimal_wide))]
 pub fn put_last<const N: usize>(text: &mut Text<N>, number: u64)
-    requires size { InMemory N }
-    requires fits { array_vec_len text.old + 21 ≤ N }
+    requires { array_vec_len text.old + 21 ≤ N }
     ensures items { text.new.items ≡ text.old.items ++ field number newline }
     ensures len { array_vec_len text.new ≤ array_vec_len text.old + 21 }
 {
@@ -51,8 +47,7 @@ pub fn put_last<const N: usize>(text: &mut Text<N>, number: u64)
 
 // Appends a form, with the next number in the place of each `%`.
 pub fn put_form<const N: usize>(text: &mut Text<N>, form: &[u8], numbers: &[u16])
-    requires size { InMemory N }
-    requires fits { array_vec_len text.old + length form.now + 4 * length numbers.now ≤ N }
+    requires { array_vec_len text.old + length form.now + 4 * length numbers.now ≤ N }
     ensures items { text.new.items ≡ text.old.items ++ filled form.now numbers.now }
     ensures len { array_vec_len text.new ≤ array_vec_len text.old + length form.now + 4 * length numbers.now }
 {
@@ -71,8 +66,7 @@ pub fn put_form<const N: usize>(text: &mut Text<N>, form: &[u8], numbers: &[u16]
 // The line of a refused record.
 #[tactic(auto, unfolding(crate::specs::Form::filled))]
 pub fn refusal_line<const N: usize>(refusal: Refusal) -> Text<N>
-    requires size { InMemory N }
-    requires fits { 14 ≤ N }
+    requires { 14 ≤ N }
     ensures { result.items ≡ refused_line (number_of refusal) }
 {
     let mut text = Text::new();
