@@ -105,8 +105,9 @@ fn total_of(n: usize) -> u64
     let mut pair = [0u64; 221];
     pair[NO_RUNS] = 1;
     copy_back(&mut pair);
-    for k in 0..n - 1 {
-        let reach = (k + 1).min(n - 2 - k);
+    // From 1: so the compiler sees that no reach overflows, and sweeps several figures at a time.
+    for k in 1..n {
+        let reach = k.min(n - 1 - k);
         sweep(&mut pair, NO_RUNS - reach, reach + 1, reach + 1);
         copy_back(&mut pair);
     }
