@@ -23,7 +23,9 @@ use Rattle.judging.specs.Walkable.{labels_in, Walkable}
 use Rattle.sizes.specs.Direction.{Direction, across, upward}
 use Rattle.sizes.proofs.LowestLaws.{before→earlier}
 use Rattle.sizes.proofs.OneWay.{Walks, accepted_walks}
-use Rattle.sizes.proofs.Turned.{TurnFits, Turned, turned_first, turn_fits, turned_next, left_is, bottom_is}
+use Rattle.sizes.proofs.Turned.{Turned, turned_first, turn_fits, turned_next, left_is, bottom_is}
+use Rattle.placing.specs.Room.{HasRoom}
+use Rattle.placing.proofs.Rooms.{has_room}
 use Rattle.groups.specs.Group.{Member, EachIn}
 use Rattle.groups.specs.Pairs.{SomeBefore}
 use Rattle.relating.proofs.Reached.{Reached, start_of, start_marks, size_of, end_is, first_start, furthest_is_start}
@@ -88,6 +90,11 @@ module _ (body first second : List ℕ) (n : ℕ) where
         not_met : (way : Direction) → ¬ Some (Meets way) 0 (0 + 1)
         not_met way (j, a, b, (l, (i, c, d, (m, p)))) = omega (arith, before→earlier label way p)
 
+    pub meeting_begun : {xb xa yb ya : List ℕ} {one : ℕ} → xb ≡ replicate 256 0 → xa ≡ replicate 256 0 → yb ≡ replicate 256 0 → ya ≡ replicate 256 0
+        → Marks one (Member first 1) → Meeting 0 xb xa yb ya 0 0 one one 0 0
+    meeting_begun {one = one} e_xb e_xa e_yb e_ya here =
+        subst (λ (T : Type 0). T) (λ i. Meeting 0 (sym e_xb i) (sym e_xa i) (sym e_yb i) (sym e_ya i) 0 0 one one 0 0) (meeting_first here)
+
     module _ {k : ℕ} {xb xa yb ya : List ℕ} {p q right top some_left some_below : ℕ}
         (now : Meeting k xb xa yb ya p q right top some_left some_below) (next : suc k < n) (turn : Turn)
         (says : Says (triple_in body (suc (suc k))) turn) where
@@ -100,8 +107,8 @@ module _ (body first second : List ℕ) (n : ℕ) where
       abbrev bottom : ℕ
       bottom = get_or (set ya (q + 1) top) (q + turn.falls) 0
 
-      pub meeting_fits : TurnFits p q turn
-      meeting_fits = turn_fits size start walks ok.accepted ok.few now.turned next turn says
+      pub meeting_fits : HasRoom p q turn
+      meeting_fits = has_room (turn_fits size start walks ok.accepted ok.few now.turned next turn says)
 
       -- the lines at which the next room would start are marks of what stands before it
       left_start : left ≡ start across (suc (suc k))
@@ -154,6 +161,33 @@ module _ (body first second : List ℕ) (n : ℕ) where
 
             bits_y : Bits (set yb (p + 1) top)
             bits_y = bits_stored yb (p + 1) top now.bits_up (omega (arith, now.long_up, meeting_fits)) now.top_bit
+
+        -- the same, of the stacks and the lines that a turn leaves
+        pub meeting_turn : {xb1 xa1 yb1 ya1 : List ℕ} {p1 q1 l b beside under : ℕ}
+            → xb1 ≡ set xb (p + 1) right → xa1 ≡ set xa (q + 1) right → yb1 ≡ set yb (p + 1) top → ya1 ≡ set ya (q + 1) top
+            → p1 ≡ p + turn.rises - turn.below → q1 ≡ q + turn.falls - turn.above
+            → l ≡ get_or xb1 (p + turn.rises) 0 → b ≡ get_or ya1 (q + turn.falls) 0
+            → beside ≡ get_or xa1 (either turn.above (q + turn.falls) 0) 0 → under ≡ get_or yb1 (either turn.below (p + turn.rises) 0) 0
+            → Meeting (k + 1) xb1 xa1 yb1 ya1 p1 q1 (bit_or (bit_or l beside) one) (bit_or (bit_or b under) one)
+            (bit_or some_left (bit_and l other)) (bit_or some_below (bit_and b other))
+        meeting_turn {xb1} {xa1} {yb1} {ya1} {p1} {q1} {l} {b} {beside} {under} e_xb e_xa e_yb e_ya e_p e_q e_l e_b e_beside e_under =
+            subst (λ (T : Type 0). T)
+            (λ i. Meeting (k + 1) (sym e_xb i) (sym e_xa i) (sym e_yb i) (sym e_ya i) (sym e_p i) (sym e_q i)
+            (bit_or (bit_or (sym is_l i) (sym is_beside i)) one) (bit_or (bit_or (sym is_b i) (sym is_under i)) one)
+            (bit_or some_left (bit_and (sym is_l i) other)) (bit_or some_below (bit_and (sym is_b i) other)))
+            (meeting_next _ _ refl refl)
+          where
+            is_l : l ≡ left
+            is_l = e_l ∙ (λ i. get_or (e_xb i) (p + turn.rises) 0)
+
+            is_b : b ≡ bottom
+            is_b = e_b ∙ (λ i. get_or (e_ya i) (q + turn.falls) 0)
+
+            is_beside : beside ≡ get_or (set xa (q + 1) right) (either turn.above (q + turn.falls) 0) 0
+            is_beside = e_beside ∙ (λ i. get_or (e_xa i) (either turn.above (q + turn.falls) 0) 0)
+
+            is_under : under ≡ get_or (set yb (p + 1) top) (either turn.below (p + turn.rises) 0) 0
+            is_under = e_under ∙ (λ i. get_or (e_yb i) (either turn.below (p + turn.rises) 0) 0)
 
     -- at the end all rooms of the second group have been looked at, or one has been found
     pub meeting_end : {last k found : ℕ} (way : Direction) → Marks found (Some (Meets way) 0 (k + 1)) → k < n → last ≤ n

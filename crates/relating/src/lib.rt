@@ -10,6 +10,9 @@ ghost use Rattle.sizes.specs.Direction.{across, upward};
 ghost use Rattle.groups.specs.Group.{Member, EachIn};
 ghost use Rattle.groups.specs.Pairs.{SomeBefore};
 
+use placing::Lines;
+use steps::Runs;
+
 // 1 where the position after an index is in the group, else 0.
 pub fn member(group: &[u8; 32], i: usize) -> u8
     requires { i < 256 }
@@ -36,12 +39,8 @@ pub fn relations(body: &[u8], n: usize, last: usize, first: &[u8; 32], second: &
     ensures below { Tells result.below (SomeBefore (label_at (labels_in body.now n)) upward
         first.now second.now) }
 {
-    let mut across_below = [0u8; 256];
-    let mut across_above = [0u8; 256];
-    let mut up_below = [0u8; 256];
-    let mut up_above = [0u8; 256];
-    let mut runs_below = 0;
-    let mut runs_above = 0;
+    let mut lines = Lines::at(0u8);
+    let mut runs = Runs { below: 0, above: 0 };
     let mut right = member(first, 0);
     let mut top = right;
     let mut some_left = 0u8;
@@ -51,25 +50,15 @@ pub fn relations(body: &[u8], n: usize, last: usize, first: &[u8; 32], second: &
     // A while: where both have occurred its end comes at once, chosen with no jump.
     while k + 1 < end {
         let turn = steps::turn_of(bits::group(body, k));
-        across_below[runs_below + 1] = right;
-        across_above[runs_above + 1] = right;
-        up_below[runs_below + 1] = top;
-        up_above[runs_above + 1] = top;
-        let below = runs_below + turn.rises;
-        let above = runs_above + turn.falls;
-        let left = across_below[below];
-        let bottom = up_above[above];
-        let beside = across_above[steps::chosen(turn.above, above, 0)];
-        let under = up_below[steps::chosen(turn.below, below, 0)];
+        let ends = lines.turn(runs, turn, right, top);
         k += 1;
         let one = member(first, k);
         let other = member(second, k);
-        some_left |= left & other;
-        some_below |= bottom & other;
-        right = left | beside | one;
-        top = bottom | under | one;
-        runs_below = below - turn.below;
-        runs_above = above - turn.above;
+        some_left |= ends.left & other;
+        some_below |= ends.bottom & other;
+        right = ends.left | ends.beside | one;
+        top = ends.bottom | ends.under | one;
+        runs = ends.runs;
         end = steps::chosen(usize::from(some_left & some_below), 0, end);
     }
     Seen {

@@ -12,9 +12,9 @@ use Rattle.record.specs.Record.{triple_in}
 use Rattle.record.specs.TripleNumber.{triple_of, group_triple}
 use Rattle.steps.specs.Turn.{Says}
 use Rattle.sizes.specs.Direction.{across, upward}
-use Rattle.sizes.proofs.Turned.{TurnFits}
+use Rattle.placing.specs.Room.{HasRoom}
 use Rattle.groups.specs.Group.{Member}
-use Rattle.relating.proofs.Meeting.{Ends, both_bit, ends_chosen, meeting_first, meeting_fits, meeting_next, meeting_end}
+use Rattle.relating.proofs.Meeting.{Ends, both_bit, ends_chosen, meeting_begun, meeting_fits, meeting_turn, meeting_end}
 use Rattle.relating.proofs.relations.Goals as goal
 use Rattle.relating.proofs.relations.Goals.{After-turn_of-turn}
 
@@ -31,7 +31,7 @@ goes_on k (inr (none, left, below)) next = absurd (omega arith)
 more : (e : After-turn_of-turn) → suc e.loop-k.k < e.args.n
 more e = omega (arith, e.loop-k-test.true, goes_on e.loop-k.k e.loop-k.invariant.1 e.loop-k-test.true, e.requires)
 
-fits : (e : After-turn_of-turn) → TurnFits e.loop-k.runs_below e.loop-k.runs_above e.turn_of-turn.result
+fits : (e : After-turn_of-turn) → HasRoom e.loop-k.runs.below e.loop-k.runs.above e.turn_of-turn.result
 fits e =
     meeting_fits e.args.body.now e.args.first.now e.args.second.now e.args.n e.requires.0 e.loop-k.invariant.0 (more e) e.turn_of-turn.result (told e)
 
@@ -39,35 +39,28 @@ fits e =
 here : (group : List ℕ) (k : ℕ) {bit : ℕ} → Marks bit (Member group (suc (k + 1))) → Marks bit (Member group (suc (suc k)))
 here group k {bit} marks = subst (λ (j : ℕ). Marks bit (Member group (suc j))) (add-one k) marks
 
+pub turn-ends-requires : goal.turn-ends-requires
+turn-ends-requires c = (omega arith, fits (goal.at.turn-ends-requires c).After-turn_of-turn)
+
 pub loop-k-init : goal.loop-k-init
 loop-k-init c =
-    (meeting_first c.args.body.now c.args.first.now c.args.second.now c.args.n c.requires.0 c.member-right.ensures, inl refl)
-
-pub bounds-up_above-above : goal.bounds-up_above-above
-bounds-up_above-above c = omega (arith, fits (goal.at.bounds-up_above-above c).After-turn_of-turn)
-
-pub overflow_sub-runs_below : goal.overflow_sub-runs_below
-overflow_sub-runs_below c = omega (arith, fits (goal.at.overflow_sub-runs_below c).After-turn_of-turn)
-
-pub overflow_sub-runs_above : goal.overflow_sub-runs_above
-overflow_sub-runs_above c = omega (arith, fits (goal.at.overflow_sub-runs_above c).After-turn_of-turn)
+    let n = c.at-lines.ensures in
+    (meeting_begun c.args.body.now c.args.first.now c.args.second.now c.args.n c.requires.0 n.0 n.1 n.2 n.3 c.member-right.ensures, inl refl)
 
 pub chosen-end-requires : goal.chosen-end-requires
 chosen-end-requires c =
-    let x = c.chosen in
-    let y = c.chosen-in-loop-k in
-    let m = meeting_next c.args.body.now c.args.first.now c.args.second.now c.args.n c.requires.0 c.loop-k.invariant.0 (more (goal.at.chosen-end-requires c).After-turn_of-turn) c.turn_of-turn.result (told (goal.at.chosen-end-requires c).After-turn_of-turn)
+    let n = c.turn-ends.ensures in
+    let m = meeting_turn c.args.body.now c.args.first.now c.args.second.now c.args.n c.requires.0 c.loop-k.invariant.0 (more (goal.at.chosen-end-requires c).After-turn_of-turn) c.turn_of-turn.result (told (goal.at.chosen-end-requires c).After-turn_of-turn)
     (here c.args.first.now c.loop-k.k c.member-one.ensures) (here c.args.second.now c.loop-k.k c.member-other.ensures)
-    x.result y.result x.ensures y.ensures in
+    n.stored.0 n.stored.1 n.stored.2 n.stored.3 n.counted.0 n.counted.1 (n.left 0) (n.bottom 0) (n.beside 0) (n.under 0) in
     omega (arith, both_bit (marks_le m.met_left) (marks_le m.met_below))
 
 pub loop-k-preserved : goal.loop-k-preserved
 loop-k-preserved c =
-    let x = c.chosen in
-    let y = c.chosen-in-loop-k in
-    let m = meeting_next c.args.body.now c.args.first.now c.args.second.now c.args.n c.requires.0 c.loop-k.invariant.0 (more (goal.at.loop-k-preserved c).After-turn_of-turn) c.turn_of-turn.result (told (goal.at.loop-k-preserved c).After-turn_of-turn)
+    let n = c.turn-ends.ensures in
+    let m = meeting_turn c.args.body.now c.args.first.now c.args.second.now c.args.n c.requires.0 c.loop-k.invariant.0 (more (goal.at.loop-k-preserved c).After-turn_of-turn) c.turn_of-turn.result (told (goal.at.loop-k-preserved c).After-turn_of-turn)
     (here c.args.first.now c.loop-k.k c.member-one.ensures) (here c.args.second.now c.loop-k.k c.member-other.ensures)
-    x.result y.result x.ensures y.ensures in
+    n.stored.0 n.stored.1 n.stored.2 n.stored.3 n.counted.0 n.counted.1 (n.left 0) (n.bottom 0) (n.beside 0) (n.under 0) in
     (m, ends_chosen c.args.last c.loop-k.end _ _ c.from.result (omega arith) (goes_on c.loop-k.k c.loop-k.invariant.1 c.loop-k-test.true) (marks_le m.met_left) (marks_le m.met_below) c.chosen-end.ensures)
 
 pub returns : goal.returns
