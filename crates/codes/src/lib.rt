@@ -170,5 +170,8 @@ pub fn count_code(answer: Result<u64, Refusal>) -> i64
     requires { CountFits answer }
     ensures { result ≡ size_code answer }
 {
-    answer.map_or_else(|refusal| i64::from(refused(refusal)), |figure| figure as i64)
+    answer.map_or_else(
+        |refusal| i64::from(refused(refusal)),
+        |figure| figure as i64,
+    )
 }
