@@ -1,7 +1,7 @@
 // The causes 2 to 5 of a room list, decided on its rooms' corners, which stand in four lists.
 #![tactic(auto)]
 
-ghost use Rattle.std.specs.Prelude.{◌≡◌, ◌+◌, ◌*◌, ◌≤◌, ◌<◌, length};
+ghost use Rattle.std.specs.Prelude.{◌≡◌, ◌+◌, ◌*◌, ◌≤◌, ◌<◌};
 ghost use Rattle.finite.specs.Decide.{Tells};
 ghost use Rattle.finite.specs.Marks.{Marks};
 ghost use Rattle.rooms.specs.Causes.{RoomSize, ShareSquare, Overlap, Uncovered};

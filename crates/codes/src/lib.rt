@@ -10,7 +10,7 @@ ghost use Rattle.codes.specs.Code.{replayed_number, refused_move_number, trace_c
 ghost use Rattle.codes.specs.Size.{SizeFits, ErrorFits, NextFits, AddFits};
 
 use book::BookError;
-use drawing::{Relation, Side};
+use drawing::Side;
 use patterns::Pattern;
 use questions::Related;
 use record::Refusal;

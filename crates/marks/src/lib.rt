@@ -2,7 +2,7 @@
 // bytes: so a label rarely waits for the byte in which the one before it was just marked.
 #![tactic(auto)]
 
-ghost use Rattle.std.specs.Prelude.{◌≡◌, ◌*◌, ◌^◌, ◌≤◌, ◌<◌, length};
+ghost use Rattle.std.specs.Prelude.{◌≡◌, ◌*◌, ◌^◌, ◌≤◌, ◌<◌};
 ghost use Rattle.std.specs.Int.Bits.{bit_or};
 ghost use Rattle.finite.specs.Decide.{Tells};
 ghost use Rattle.marks.specs.Seen.{mark_of, with_label};
