@@ -47,14 +47,6 @@ loop-k-init c =
     let n = c.at-lines.ensures in
     (meeting_begun c.args.body.now c.args.first.now c.args.second.now c.args.n c.requires.0 n.0 n.1 n.2 n.3 c.member-right.ensures, inl refl)
 
-pub chosen-end-requires : goal.chosen-end-requires
-chosen-end-requires c =
-    let n = c.turn-ends.ensures in
-    let m = meeting_turn c.args.body.now c.args.first.now c.args.second.now c.args.n c.requires.0 c.loop-k.invariant.0 (more (goal.at.chosen-end-requires c).After-turn_of-turn) c.turn_of-turn.result (told (goal.at.chosen-end-requires c).After-turn_of-turn)
-    (here c.args.first.now c.loop-k.k c.member-one.ensures) (here c.args.second.now c.loop-k.k c.member-other.ensures)
-    n.stored.0 n.stored.1 n.stored.2 n.stored.3 n.counted.0 n.counted.1 (n.left 0) (n.bottom 0) (n.beside 0) (n.under 0) in
-    omega (arith, both_bit (marks_le m.met_left) (marks_le m.met_below))
-
 pub loop-k-preserved : goal.loop-k-preserved
 loop-k-preserved c =
     let n = c.turn-ends.ensures in
@@ -62,6 +54,14 @@ loop-k-preserved c =
     (here c.args.first.now c.loop-k.k c.member-one.ensures) (here c.args.second.now c.loop-k.k c.member-other.ensures)
     n.stored.0 n.stored.1 n.stored.2 n.stored.3 n.counted.0 n.counted.1 (n.left 0) (n.bottom 0) (n.beside 0) (n.under 0) in
     (m, ends_chosen c.args.last c.loop-k.end _ _ c.from.result (omega arith) (goes_on c.loop-k.k c.loop-k.invariant.1 c.loop-k-test.true) (marks_le m.met_left) (marks_le m.met_below) c.chosen-end.ensures)
+
+pub chosen-end-requires : goal.chosen-end-requires
+chosen-end-requires c =
+    let n = c.turn-ends.ensures in
+    let m = meeting_turn c.args.body.now c.args.first.now c.args.second.now c.args.n c.requires.0 c.loop-k.invariant.0 (more (goal.at.chosen-end-requires c).After-turn_of-turn) c.turn_of-turn.result (told (goal.at.chosen-end-requires c).After-turn_of-turn)
+    (here c.args.first.now c.loop-k.k c.member-one.ensures) (here c.args.second.now c.loop-k.k c.member-other.ensures)
+    n.stored.0 n.stored.1 n.stored.2 n.stored.3 n.counted.0 n.counted.1 (n.left 0) (n.bottom 0) (n.beside 0) (n.under 0) in
+    omega (arith, both_bit (marks_le m.met_left) (marks_le m.met_below))
 
 pub returns : goal.returns
 returns c =
