@@ -22,7 +22,8 @@ fn front_size(rest: &[u8]) -> usize
     size.min(rest.len())
 }
 
-// What reading on answers: the length of the record that begins at the place, nothing at the end, or why not.
+// What reading on answers: the length of the record that begins at the place, nothing at the end, or why not. The book, its used length and
+// the place come from C one by one, and are tested in an order of their own.
 pub fn next_answer(book: &[u8], used: usize, place: usize) -> Result<Option<usize>, BookError>
     ensures { result ≡ next_answer book.now used place }
 {

@@ -43,7 +43,7 @@ fn flat(lists: &CornerLists) -> bool
 // That no room is without size is a clause of each function from here on, and no type: it is what cause 2 has found of the same lists, and a
 // type of its own for them would be taken off again at each call.
 
-// 1 where the first number is below the second, else 0.
+// 1 where the first number is below the second, else 0: a number again, as what two rooms share is, for the compiler's sake.
 fn below(first: u16, second: u16) -> u16
     ensures { Marks result (first < second) }
 {

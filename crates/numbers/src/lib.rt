@@ -47,7 +47,8 @@ struct Table<'a> {
     ghost filled: { Rows rows.now },
 }
 
-// Fills in the row of each byte that a line may hold; all others break the form.
+// Fills in the row of each byte that a line may hold; all others break the form. The bytes are literals here, so that a cast says what they
+// are.
 fn fill(rows: &mut [u64; 256])
     requires { rows.old ≡ replicate 256 0 }
     ensures { Rows rows.new }

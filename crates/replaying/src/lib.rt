@@ -174,7 +174,7 @@ fn judge(trace: &[u8]) -> Result<Replayed, TraceError>
     })
 }
 
-// What a triple adds to an entry.
+// What a triple adds to an entry. A table beside `row`, since its numbers are others: each is a match on the triple's number.
 fn gain(triple: u8) -> usize
     requires { triple < 8 }
     ensures { (result ≡ gain_of (triple_of triple)) × (result ≤ 257) }
@@ -212,6 +212,7 @@ fn write(trace: &[u8], states: &mut [u16])
             kept[rooms] = entry as u16;
             at += 2;
         } else {
+            // The kind is a number here: one sum for 2 and 3, and no jump.
             rooms = rooms + usize::from(kind) - 3;
             entry = usize::from(kept[rooms]);
             at += 1;

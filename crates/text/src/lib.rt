@@ -18,7 +18,8 @@ use itoa::Buffer;
 use record::Refusal;
 pub use record_plan::Plan;
 
-// A program's whole text, of at most N bytes: each program gives the places that its longest text takes.
+// A program's whole text, of at most N bytes: each program gives the places that its longest text takes. The room that is left is a clause of
+// each function that puts something, and no type: it is another number for each.
 pub type Text<const N: usize> = ArrayVec<u8, N>;
 
 // Appends the digits of a number. Not by `write!`: its contract does not say that it succeeds where there is room, and the
