@@ -133,12 +133,12 @@ pub fn groups_code(answer: Result<Option<Side>, Refusal>) -> i32
 }
 
 // The number of an accepted trace: its moves, and the rooms and runs at the end.
-fn replayed_number(moves: usize, rooms: usize, runs: usize) -> usize
-    requires { (moves ≤ 65535) × (rooms ≤ 255) × (runs ≤ 255) }
-    ensures { (result ≡ replayed_number moves rooms runs) × (result < 2 ^ 32) }
+fn replayed_number(end: Replayed) -> usize
+    requires { (end.moves ≤ 65535) × (end.rooms ≤ 255) × (end.runs ≤ 255) }
+    ensures { (result ≡ replayed_number end.moves end.rooms end.runs) × (result < 2 ^ 32) }
 {
-    let moves_and_rooms = 256 * moves + rooms;
-    256 * moves_and_rooms + runs
+    let moves_and_rooms = 256 * end.moves + end.rooms;
+    256 * moves_and_rooms + end.runs
 }
 
 // The number of a refused move of a trace, with its ordinal and the rooms and runs before it.
@@ -157,7 +157,7 @@ pub fn trace_code(answer: Result<Replayed, TraceError>) -> i64
     ensures { result ≡ trace_code answer }
 {
     match answer {
-        Ok(end) => replayed_number(end.moves, end.rooms, end.runs) as i64,
+        Ok(end) => replayed_number(end) as i64,
         Err(TraceError::RefusedMove(refusal, ordinal, rooms, runs)) => {
             -(refused_move_number(refusal, ordinal, rooms, runs) as i64)
         }

@@ -9,7 +9,7 @@ use Rattle.finite.specs.Decide.{Tells, stable, le_or_lt}
 use Rattle.record.specs.Labels.{EachOnce}
 use Rattle.drawing.specs.declared.Side.TheVariants.{Left, Right, Above, Below}
 use Rattle.sizes.specs.Direction.{across, upward}
-use Rattle.groups.specs.Group.{Member, EachIn, SomeIn, dec_some_in, Empty, Fits}
+use Rattle.groups.specs.Group.{Member, EachIn, SomeIn, dec_some_in, Fits}
 use Rattle.groups.specs.Answer.{standing}
 use Rattle.groups.proofs.StandingFacts.{member_inside, apart, Says, says→standing, fits_exchanged, exchanged, says_exchanged}
 use Rattle.groups.specs.Pairs.{Ahead, SomePair, SomeBefore}
@@ -32,12 +32,6 @@ not_after group last not = stable (dec_some_in group (λ j. dec_le j last)) (λ 
     not (λ j a b m. elim (le_or_lt j last) [ inl h ↦ absurd (none (j, a, b, (m, h))) | inr h ↦ h ]))
 
 module _ (f : ℕ → ℕ) (n : ℕ) (once : EachOnce f n) (first second : List ℕ) (fits : Fits n first second) where
-  abbrev filled_first : ¬ Empty first
-  filled_first = λ e. fits.filled (inl e)
-
-  abbrev filled_second : ¬ Empty second
-  filled_second = λ e. fits.filled (inr e)
-
   says_ahead : Ahead first second → (some_left some_below : Bool) → Tells some_left (SomeBefore f across first second)
       → Tells some_below (SomeBefore f upward first second) → Says f first second (Ok (verdict_of some_left some_below Left Below))
   says_ahead before some_left false l b = all_one_way f n once first second fits across before b

@@ -69,10 +69,7 @@ fn first_position(group: &[u8; 32]) -> Option<usize>
 fn all_after(group: &[u8; 32], last: usize) -> bool
     ensures { Tells result (EachIn group.now (λ k. last < k)) }
 {
-    match first_position(group) {
-        Some(first) => last < first,
-        None => true,
-    }
+    first_position(group).is_none_or(|first| last < first)
 }
 
 // ---- what is refused of two groups
