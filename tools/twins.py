@@ -1,7 +1,7 @@
 #!/usr/bin/env python3
 """Finds functions of src/ whose bodies are the same but for types, numbers and the names in them.
 
-usage: tools/twins.py [ROOT]    ROOT is the top of a checkout, by default the current folder
+usage: python3 tools/twins.py [ROOT]    ROOT is the top of a checkout, by default the current folder
 """
 import collections
 import glob
