@@ -23,7 +23,6 @@ use Rattle.reading.specs.Answer.{triples_of}
 use Rattle.drawing.specs.Drawing.{left_at, bottom_at, right_at, top_at, room_at, drawing_of}
 use Rattle.drawing.specs.Corners.{room_in}
 use Rattle.drawing.specs.Walked.{walked_left, walked_bottom, walked_right, walked_top}
-use Rattle.drawing.specs.declared.Corners.{Corners}
 use Rattle.answers.specs.Corners.{rooms_from}
 
 -- ---- one position
@@ -86,9 +85,10 @@ module _ {bytes : List ℕ} {n : ℕ} (kind : n ≡ kind_of bytes) (readable : R
   top_at_lem i h = top_is t n accepted i h ∙ (λ j. top_at (label_at (list j)) n (suc i))
 
   -- the room at a position that the walk back has passed
-  module _ {earliest : ℕ} {labels₀ labels : List ℕ} {corners₀ corners : Corners} (w : Written t n earliest labels₀ corners₀ labels corners)
-      (lefts : Starts down t n corners.left) (bottoms : Starts up t n corners.bottom) where
-    pub room_is : (i : ℕ) → earliest ≤ i → i < n → room_in corners (suc i) ≡ room_at f n (suc i)
+  module _ {earliest : ℕ} {labels₀ right₀ top₀ labels left bottom right top : List ℕ} (w : Written t n earliest labels₀ right₀ top₀ labels right top)
+      (lefts : Starts down t n left) (bottoms : Starts up t n bottom) where
+    pub room_is : (i : ℕ) → earliest ≤ i → i < n
+        → room_in (record { left = left; bottom = bottom; right = right; top = top }) (suc i) ≡ room_at f n (suc i)
     room_is i past h = λ j. record {
       left = (lefts.at i h ∙ left_at_lem i h) j;
       bottom = (bottoms.at i h ∙ bottom_at_lem i h) j;
@@ -104,8 +104,9 @@ module _ {bytes : List ℕ} {n : ℕ} (kind : n ≡ kind_of bytes) (readable : R
   labels_front before long k = filling_end (λ i. label_of t n (suc i)) n k long ∙ ap (λ (part : List ℕ). part ++ drop n before) list
 
   -- all rooms: the corners are those of the drawing
-  pub drawing_held : {labels₀ labels : List ℕ} {corners₀ corners : Corners} → Written t n 0 labels₀ corners₀ labels corners
-      → Starts down t n corners.left → Starts up t n corners.bottom → rooms_from corners n ≡ drawing_of (labels_of bytes)
+  pub drawing_held : {labels₀ right₀ top₀ labels left bottom right top : List ℕ} → Written t n 0 labels₀ right₀ top₀ labels right top
+      → Starts down t n left → Starts up t n bottom
+      → rooms_from (record { left = left; bottom = bottom; right = right; top = top }) n ≡ drawing_of (labels_of bytes)
   unfolding drawing_of
   drawing_held w lefts bottoms =
       table_same _ (λ i. room_at f n (suc i)) n (λ i h. room_is w lefts bottoms i (omega arith) h)

@@ -12,7 +12,6 @@ use Rattle.record.specs.Triple.{Triple, triple}
 use Rattle.record.specs.Way.{up, down}
 use Rattle.record.specs.Decode.{bits_of, label_of}
 use Rattle.record.specs.Positions.{first_of, others_of, Entered, pushed, entered_met, entered_before, entered_but}
-use Rattle.drawing.specs.declared.Corners.{Corners}
 use Rattle.steps.specs.declared.Turn.{Turn}
 use Rattle.steps.specs.Turn.{Says, rises_by, falls_by}
 use Rattle.backward.specs.Written.{end_at, Written}
@@ -135,21 +134,20 @@ pub ends_small : (t : ℕ → Triple) (n i : ℕ) {tops rights : List ℕ} {p q 
 ends_small t n i s = let w = entered_small t n (n - suc i) in (omega (arith, s.up_is, w.current down), omega (arith, s.right_is, w.current up))
 
 -- ---- what is written
-pub written_first : (t : ℕ → Triple) (n : ℕ) (labels : List ℕ) (corners : Corners) → Written t n n labels corners labels corners
-written_first t n labels corners = record {
+pub written_first : (t : ℕ → Triple) (n : ℕ) (labels right top : List ℕ) → Written t n n labels right top labels right top
+written_first t n labels right top = record {
   labels_are = filling_none (λ i. label_of t n (suc i)) n labels;
-  rights_are = filling_none (end_at t n up) n corners.right;
-  tops_are = filling_none (end_at t n down) n corners.top;
+  rights_are = filling_none (end_at t n up) n right;
+  tops_are = filling_none (end_at t n down) n top;
 }
 
 -- at index i comes one more of each
-module _ {t : ℕ → Triple} {n : ℕ} {labels₀ labels : List ℕ} {corners₀ corners : Corners} (long-labels : n ≤ length labels₀)
-    (long-right : n ≤ length corners₀.right) (long-top : n ≤ length corners₀.top) {tops rights : List ℕ} {p q end-up end-right label : ℕ} where
-  pub written_on : {i k : ℕ} → Written t n k labels₀ corners₀ labels corners → k ≡ suc i → i < n → EndsAt t n i tops rights p q end-up end-right → label ≡ label_of t n (suc i)
-      → Written t n i labels₀ corners₀ (set labels i label)
-      (record { left = corners.left; bottom = corners.bottom; right = set corners.right i end-right; top = set corners.top i end-up })
+module _ {t : ℕ → Triple} {n : ℕ} {labels₀ right₀ top₀ labels right top : List ℕ} (long-labels : n ≤ length labels₀) (long-right : n ≤ length right₀)
+    (long-top : n ≤ length top₀) {tops rights : List ℕ} {p q end-up end-right label : ℕ} where
+  pub written_on : {i k : ℕ} → Written t n k labels₀ right₀ top₀ labels right top → k ≡ suc i → i < n → EndsAt t n i tops rights p q end-up end-right → label ≡ label_of t n (suc i)
+      → Written t n i labels₀ right₀ top₀ (set labels i label) (set right i end-right) (set top i end-up)
   written_on {i} behind next within s l =
-      let w = subst (λ (a : ℕ). Written t n a labels₀ corners₀ labels corners) next behind in
+      let w = subst (λ (a : ℕ). Written t n a labels₀ right₀ top₀ labels right top) next behind in
       record {
         labels_are = filling_down label w.labels_are within (omega arith) l;
         rights_are = filling_down end-right w.rights_are within (omega arith) (sym s.right_is);

@@ -7,7 +7,6 @@ ghost use Rattle.record.specs.Record.{body_length, triple_in};
 ghost use Rattle.steps.specs.Passes.{Unpacked, Lowers};
 ghost use Rattle.backward.specs.Written.{Written};
 
-use drawing::Corners;
 use steps::{Notes, Runs};
 
 // The labels from the end, where all are one run, back to the one at index `earliest`: the newest label is taken out of the
@@ -20,13 +19,14 @@ pub fn walk(
     earliest: usize,
     notes: &Notes,
     labels: &mut [u8],
-    corners: &mut Corners,
+    right: &mut [u8],
+    top: &mut [u8],
 )
     requires accepted { (earliest < n) × (n ≤ 255) × (length body.now ≡ body_length n) × Accepted (triple_in body.now) n }
     requires noted { Unpacked (triple_in body.now) n notes.now.triples × Lowers (triple_in body.now) n notes.now.lower }
-    requires room { n ≤ length labels.old }
-    ensures written { Written (triple_in body.now) n earliest labels.old corners.old labels.new corners.new }
-    ensures kept { (corners.new.left ≡ corners.old.left) × (corners.new.bottom ≡ corners.old.bottom) }
+    requires room { (n ≤ length labels.old) × (n ≤ length right.old) × (n ≤ length top.old) }
+    ensures { Written (triple_in body.now) n earliest
+        labels.old right.old top.old labels.new right.new top.new }
 {
     // Four stacks in arrays of their own, and no pairs: a turn reads a side's two at different heights.
     let mut below = [0u8; 255];
@@ -40,8 +40,8 @@ pub fn walk(
     for i in (earliest + 1..n).rev() {
         let label = lowest + usize::from(notes.lower[i]);
         labels[i] = label as u8;
-        corners.right[i] = end_right as u8;
-        corners.top[i] = end_up as u8;
+        right[i] = end_right as u8;
+        top[i] = end_up as u8;
         let turn = steps::turn_of(notes.triples[i - 1]);
         let under = runs.below + turn.below;
         let over = runs.above + turn.above;
@@ -61,6 +61,6 @@ pub fn walk(
     }
     let label = lowest + usize::from(notes.lower[earliest]);
     labels[earliest] = label as u8;
-    corners.right[earliest] = end_right as u8;
-    corners.top[earliest] = end_up as u8;
+    right[earliest] = end_right as u8;
+    top[earliest] = end_up as u8;
 }

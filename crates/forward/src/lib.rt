@@ -7,7 +7,6 @@ ghost use Rattle.record.specs.Record.{body_length, triple_in};
 ghost use Rattle.steps.specs.Counts.{end_counts};
 ghost use Rattle.forward.specs.Noted.{Noted};
 
-use drawing::Corners;
 use steps::{Notes, Runs};
 
 // The walk, with the size and the newest position of each run: a stack of each for the runs below and one for those above, the
@@ -15,11 +14,16 @@ use steps::{Notes, Runs};
 // triples are noted by their numbers; of each position, how many labels of its run lie below it is noted, and the newest
 // positions in the runs next below and next above its label, which are its room's left and bottom. None where a run is missing. The body and
 // its count of rooms are two parameters, here and in the other walks, since each of these asks another fact of the two.
-pub fn walk(body: &[u8], n: usize, notes: &mut Notes, corners: &mut Corners) -> Option<Runs>
+pub fn walk(
+    body: &[u8],
+    n: usize,
+    notes: &mut Notes,
+    left: &mut [u8; 255],
+    bottom: &mut [u8; 255],
+) -> Option<Runs>
     requires { (1 ≤ n) × (n ≤ 255) × (length body.now ≡ body_length n) }
     ensures counts { end_counts result ≡ walk (triple_in body.now) (n - 1) }
-    ensures noted { Noted result (triple_in body.now) n notes.new corners.new }
-    ensures kept { (corners.new.right ≡ corners.old.right) × (corners.new.top ≡ corners.old.top) }
+    ensures noted { Noted result (triple_in body.now) n notes.new left.new bottom.new }
 {
     // Four stacks in arrays of their own, and no pairs: a turn reads a side's sizes and its newest positions at different heights.
     let mut below = [0u8; 255];
@@ -29,8 +33,8 @@ pub fn walk(body: &[u8], n: usize, notes: &mut Notes, corners: &mut Corners) -> 
     let mut runs = Runs { below: 0, above: 0 };
     let mut size = 1;
     notes.lower[0] = 0;
-    corners.left[0] = 0;
-    corners.bottom[0] = 0;
+    left[0] = 0;
+    bottom[0] = 0;
     for k in 0..n - 1 {
         let triple = bits::group(body, k);
         notes.triples[k] = triple;
@@ -46,8 +50,8 @@ pub fn walk(body: &[u8], n: usize, notes: &mut Notes, corners: &mut Corners) -> 
         newest_below[runs.below + 1] = next as u8;
         newest_above[runs.above + 1] = next as u8;
         notes.lower[next] = labels_below as u8;
-        corners.left[next] = newest_below[runs.below + turn.rises];
-        corners.bottom[next] = newest_above[runs.above + turn.falls];
+        left[next] = newest_below[runs.below + turn.rises];
+        bottom[next] = newest_above[runs.above + turn.falls];
         runs = after;
     }
     Some(runs)

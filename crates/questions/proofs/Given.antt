@@ -14,7 +14,6 @@ use Rattle.steps.specs.Passes.{Starts}
 use Rattle.backward.specs.Written.{Written}
 use Rattle.reading.specs.Answer.{triples_of}
 use Rattle.drawing.specs.Corners.{room_in}
-use Rattle.drawing.specs.declared.Corners.{Corners}
 use Rattle.drawing.specs.Drawing.{room_at}
 use Rattle.drawing.specs.Side.{side_of}
 use Rattle.drawing.specs.declared.Side.TheVariants.{Left, Right, Above, Below}
@@ -25,8 +24,8 @@ side_same : (f g : ℕ → ℕ) (i j : ℕ) → f i ≡ g i → f j ≡ g j → 
 unfolding side_of
 side_same f g i j e d = λ k. ite (dec_lt i j) (ite (dec_lt (e k) (d k)) Left Below) (ite (dec_lt (d k) (e k)) Right Above)
 
-module _ {bytes : List ℕ} {n earliest : ℕ} (kind : n ≡ kind_of bytes) (readable : Readable bytes) {labels₀ labels : List ℕ} {corners₀ corners : Corners}
-    (w : Written (triples_of bytes) n earliest labels₀ corners₀ labels corners) where
+module _ {bytes : List ℕ} {n earliest : ℕ} (kind : n ≡ kind_of bytes) (readable : Readable bytes) {labels₀ right₀ top₀ labels right top : List ℕ}
+    (w : Written (triples_of bytes) n earliest labels₀ right₀ top₀ labels right top) where
   abbrev f : ℕ → ℕ
   f = label_at (labels_of bytes)
 
@@ -39,8 +38,8 @@ module _ {bytes : List ℕ} {n earliest : ℕ} (kind : n ≡ kind_of bytes) (rea
       → side_of (label_at labels) first second ≡ side_of f first second
   side_is first second some past most some' past' most' = side_same (label_at labels) f first second (label_is first some past most) (label_is second some' past' most')
 
-  pub room_is : Starts down (triples_of bytes) n corners.left → Starts up (triples_of bytes) n corners.bottom → (position : ℕ) → 1 ≤ position → earliest ≤ position - 1 → position ≤ n
-      → room_in corners position ≡ room_at f (kind_of bytes) position
+  pub room_is : {left bottom : List ℕ} → Starts down (triples_of bytes) n left → Starts up (triples_of bytes) n bottom → (position : ℕ) → 1 ≤ position → earliest ≤ position - 1
+      → position ≤ n → room_in (record { left = left; bottom = bottom; right = right; top = top }) position ≡ room_at f (kind_of bytes) position
   room_is lefts bottoms zero some past most = absurd (omega arith)
   room_is lefts bottoms (suc k) some past most =
       drawn.room_is kind readable w lefts bottoms k (omega arith) most ∙ ap (λ (m : ℕ). room_at f m (suc k)) kind

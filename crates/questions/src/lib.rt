@@ -36,7 +36,7 @@ pub fn question(record: &[u8], first: u8, second: u8) -> Result<Related, Refusal
 {
     let mut labels = [0u8; 255];
     let mut corners = Corners::NONE;
-    let n = reading::read(record, earlier(first, second), &mut labels, &mut corners)?;
+    let n = answers::read_into(record, earlier(first, second), &mut labels, &mut corners)?;
     if outside(first, n) || outside(second, n) {
         return Err(Refusal::PositionOutside);
     }

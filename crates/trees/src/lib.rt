@@ -198,7 +198,7 @@ pub fn tree(record: &[u8], tree: &mut [u8]) -> Result<usize, Refusal>
 {
     let mut labels = [0u8; 255];
     let mut corners = Corners::NONE;
-    let n = reading::read(record, 0, &mut labels, &mut corners)?;
+    let n = answers::read_into(record, 0, &mut labels, &mut corners)?;
     let mut put = [0u8; 763];
     let Some(written) = write_tree(&labels[..n], &mut put) else {
         return Err(Refusal::NotSlicing);

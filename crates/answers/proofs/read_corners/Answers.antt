@@ -3,7 +3,7 @@ use Rattle.std.proofs.Common.{sym, subst, ◌∙◌, ◌++◌, ◌≡◌, ℕ, l
 use Rattle.std.proofs.Math.Seq.{length-take-le}
 use Rattle.record.specs.Read.{labels_of}
 use Rattle.record.specs.declared.Refusal.{Refusal}
-use Rattle.reading.specs.Answer.{Leaves}
+use Rattle.answers.specs.Leaves.{LeavesIn}
 use Rattle.reading.specs.SameRefusal.{same_refusal}
 use Rattle.answers.specs.Corners.{CornersIn}
 use Rattle.answers.specs.Drawn.{labels_front, drawing_held}
@@ -15,10 +15,10 @@ returns-in_err-n c =
     let bytes = c.args.«record».now in
     let labels = c.args.labels.now in
     let fit = c.min-fit.result in
-    let leaves = subst (λ (r : Result ℕ Refusal). Leaves r bytes 0 (take fit labels) c.args.corners.now c.read.new.labels c.read.new.corners)
-    c.in_err-n.was c.read.ensures.leaves in
-    let refused : CornersIn bytes labels c.args.places (Err c.in_err-n.field-0.0) (c.read.new.labels ++ drop fit labels) c.read.new.corners = record {
-      answered = same_refusal Err bytes _ c.in_err-n.field-0.0 (sym c.in_err-n.was ∙ c.read.ensures.answer);
+    let leaves = subst (λ (r : Result ℕ Refusal). LeavesIn r bytes 0 (take fit labels) c.args.corners.now c.read_into.new.labels c.read_into.new.corners)
+    c.in_err-n.was c.read_into.ensures.leaves in
+    let refused : CornersIn bytes labels c.args.places (Err c.in_err-n.field-0.0) (c.read_into.new.labels ++ drop fit labels) c.read_into.new.corners = record {
+      answered = same_refusal Err bytes _ c.in_err-n.field-0.0 (sym c.in_err-n.was ∙ c.read_into.ensures.answer);
       few = zero-le;
       fit = zero-le;
       labels_are = front_left fit labels leaves.0;

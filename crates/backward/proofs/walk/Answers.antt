@@ -1,5 +1,5 @@
 -- `backward::walk` meets its contract. Between two turns hold Left of Back, for the labels, and EndsAt of Ends, for the ends; what is written from the back is Written.
-use Rattle.std.proofs.Common.{◌≡◌, refl, ap, subst, ◌∙◌, ℕ, suc, ◌+◌, ◌-◌, ◌≤◌, ◌<◌, arith, rules}
+use Rattle.std.proofs.Common.{◌≡◌, ap, subst, ◌∙◌, ℕ, suc, ◌+◌, ◌-◌, ◌≤◌, ◌<◌, arith}
 use Rattle.std.proofs.Math.ListN.{set}
 use Rattle.record.specs.Record.{triple_in}
 use Rattle.record.specs.Triple.{Triple}
@@ -73,10 +73,8 @@ loop-i-init c =
     record {
       left = left_first t c.args.n some;
       ends = ends_first t c.args.n some;
-      written = written_first t c.args.n c.args.labels.now c.args.corners.now;
+      written = written_first t c.args.n c.args.labels.now c.args.right.now c.args.top.now;
       more = c.requires.accepted.0;
-      left_kept = refl;
-      bottom_kept = refl;
     }
 
 pub overflow_add-label : goal.overflow_add-label
@@ -85,11 +83,11 @@ overflow_add-label c = record { fits = omega (arith, label_few c) }
 pub overflow_cast-labels : goal.overflow_cast-labels
 overflow_cast-labels c = record { fits = label_few c }
 
-pub overflow_cast-corners : goal.overflow_cast-corners
-overflow_cast-corners c = omega (arith, ends_small (triple_in c.args.body.now) c.args.n (c.loop-i.i - 1) c.loop-i.invariant.ends, c.requires.accepted.1)
+pub overflow_cast-right : goal.overflow_cast-right
+overflow_cast-right c = omega (arith, ends_small (triple_in c.args.body.now) c.args.n (c.loop-i.i - 1) c.loop-i.invariant.ends, c.requires.accepted.1)
 
-pub overflow_cast-corners-in-loop-i : goal.overflow_cast-corners-in-loop-i
-overflow_cast-corners-in-loop-i c = omega (arith, ends_small (triple_in c.args.body.now) c.args.n (c.loop-i.i - 1) c.loop-i.invariant.ends, c.requires.accepted.1)
+pub overflow_cast-top : goal.overflow_cast-top
+overflow_cast-top c = omega (arith, ends_small (triple_in c.args.body.now) c.args.n (c.loop-i.i - 1) c.loop-i.invariant.ends, c.requires.accepted.1)
 
 pub overflow_cast-below : goal.overflow_cast-below
 overflow_cast-below c = record { fits = omega (arith, label_few (goal.at.overflow_cast-below c).After-from) }
@@ -129,10 +127,8 @@ loop-i-preserved c =
       ends = ends_turned (triple_in c.args.body.now) c.args.n i ends (room_below at.In-loop-i) (room_above at.In-loop-i) more left.within says turn.enough_below turn.enough_above
           (c.chosen-end_up.ensures ∙ ap (either w.falls i) c.from-in-loop-i-3.ensures)
           (c.chosen-end_right.ensures ∙ ap (either w.rises i) c.from-in-loop-i-4.ensures);
-      written = written_on c.requires.room (search rules) (search rules) l.invariant.written (omega arith) left.within ends label;
+      written = written_on c.requires.room.0 c.requires.room.1 c.requires.room.2 l.invariant.written (omega arith) left.within ends label;
       more = omega (arith, c.loop-i-test.true);
-      left_kept = l.invariant.left_kept;
-      bottom_kept = l.invariant.bottom_kept;
     }
 
 pub overflow_add-label-2 : goal.overflow_add-label-2
@@ -141,15 +137,15 @@ overflow_add-label-2 c = record { fits = omega (arith, (last-label c).0) }
 pub overflow_cast-labels-2 : goal.overflow_cast-labels-2
 overflow_cast-labels-2 c = record { fits = (last-label c).0 }
 
-pub overflow_cast-corners-2 : goal.overflow_cast-corners-2
-overflow_cast-corners-2 c = omega (arith, ends_small (triple_in c.args.body.now) c.args.n (c.loop-i.i - 1) c.loop-i.invariant.ends, c.requires.accepted.1)
+pub overflow_cast-right-2 : goal.overflow_cast-right-2
+overflow_cast-right-2 c = omega (arith, ends_small (triple_in c.args.body.now) c.args.n (c.loop-i.i - 1) c.loop-i.invariant.ends, c.requires.accepted.1)
 
-pub overflow_cast-corners-3 : goal.overflow_cast-corners-3
-overflow_cast-corners-3 c = omega (arith, ends_small (triple_in c.args.body.now) c.args.n (c.loop-i.i - 1) c.loop-i.invariant.ends, c.requires.accepted.1)
+pub overflow_cast-top-2 : goal.overflow_cast-top-2
+overflow_cast-top-2 c = omega (arith, ends_small (triple_in c.args.body.now) c.args.n (c.loop-i.i - 1) c.loop-i.invariant.ends, c.requires.accepted.1)
 
-pub returns-clause-written : goal.returns-clause-written
-returns-clause-written c =
+pub returns : goal.returns
+returns c =
     let l = c.loop-i in
-    let e = (goal.at.returns-clause-written c).After-from-2 in
+    let e = (goal.at.returns c).After-from-2 in
     let ends = subst (λ (i : ℕ). EndsAt (triple_in c.args.body.now) c.args.n i l.tops l.rights l.runs.below l.runs.above l.end_up l.end_right) (last_index e) l.invariant.ends in
-    written_on c.requires.room (search rules) (search rules) l.invariant.written (last e) c.requires.accepted.0 ends (last-label e).1
+    written_on c.requires.room.0 c.requires.room.1 c.requires.room.2 l.invariant.written (last e) c.requires.accepted.0 ends (last-label e).1

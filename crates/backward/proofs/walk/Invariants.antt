@@ -1,5 +1,5 @@
 -- The indices from i on are done.
-use Rattle.std.proofs.Common.{◌≡◌, ◌-◌, ◌<◌}
+use Rattle.std.proofs.Common.{◌-◌, ◌<◌}
 use Rattle.record.specs.Record.{triple_in}
 use Rattle.backward.proofs.Back.{Left}
 use Rattle.backward.specs.Written.{Written}
@@ -10,8 +10,6 @@ abbrev pub invariant-loop-i : goal.invariant-loop-i
 invariant-loop-i l = record {
   left : Left (triple_in l.body) l.n (l.i - 1) l.below l.above l.runs.below l.runs.above l.lowest;
   ends : EndsAt (triple_in l.body) l.n (l.i - 1) l.tops l.rights l.runs.below l.runs.above l.end_up l.end_right;
-  written : Written (triple_in l.body) l.n l.i l.initial.labels l.initial.corners l.labels l.corners;
+  written : Written (triple_in l.body) l.n l.i l.initial.labels l.initial.right l.initial.top l.labels l.right l.top;
   more : l.earliest < l.i;
-  left_kept : l.corners.left ≡ l.initial.corners.left;
-  bottom_kept : l.corners.bottom ≡ l.initial.corners.bottom;
 }

@@ -51,11 +51,9 @@ fit e more goes told under over = small e.loop-k.invariant.sizes more goes e.tur
 pub loop-k-init : goal.loop-k-init
 loop-k-init c = record {
   sizes = counted_first (triple_in c.args.body.now) c.args.notes.now.lower _ _ (search rules) refl refl;
-  lefts = placed_first (triple_in c.args.body.now) down c.args.corners.now.left _ (search rules) refl refl;
-  bottoms = placed_first (triple_in c.args.body.now) up c.args.corners.now.bottom _ (search rules) refl refl;
+  lefts = placed_first (triple_in c.args.body.now) down c.args.left.now _ (search rules) refl refl;
+  bottoms = placed_first (triple_in c.args.body.now) up c.args.bottom.now _ (search rules) refl refl;
   unpacked = record { size = search rules; at = λ i h. absurd (omega arith) };
-  right_kept = refl;
-  top_kept = refl;
 }
 
 -- the run that the triple needs is missing, then and at the end
@@ -112,6 +110,4 @@ loop-k-preserved c =
       lefts = placed_next now.lefts further (omega arith) _ _ says.rises_is next.0;
       bottoms = placed_next now.bottoms further (omega arith) _ _ says.falls_is next.1;
       unpacked = unpacked_next c.group-triple.result now.unpacked further c.group-triple.ensures.1 (read c.args.body.now c.loop-k.k c.group-triple.result c.group-triple.ensures.0);
-      right_kept = now.right_kept;
-      top_kept = now.top_kept;
     }

@@ -36,7 +36,7 @@ drawn e =
     let at = both e in
     let past = e.earlier.ensures in
     let left = g.long g.few (omega (arith, past.0, at.0, at.1)) in
-    let room = room_in e.read.new.corners in (
+    let room = room_in e.read_into.new.corners in (
       e.room-one.ensures ∙ ap room e.index.ensures ∙ room_is g.kind g.readable left g.lefts g.bottoms e.args.first at.0 past.0 at.1,
       e.room-other.ensures ∙ ap room e.index-2.ensures ∙ room_is g.kind g.readable left g.lefts g.bottoms e.args.second at.2 past.1 at.3,
     )
