@@ -1,8 +1,8 @@
 -- The digits of a number: those of its tenth and the last one, at most five for an unsigned 16-bit number and
 -- twenty for one of 64 bits.
-use Rattle.std.specs.Prelude.{List, [], ◌∷◌, ◌++◌, ◌≡◌, refl, ℕ, zero, suc, ◌/◌, ◌%◌, ◌^◌, ◌≤◌, ◌<◌, length}
+use Rattle.std.specs.Prelude.{List, [], ◌∷◌, ◌++◌, ◌≡◌, refl, ℕ, zero, suc, ◌+◌, ◌*◌, ◌/◌, ◌%◌, ◌^◌, ◌≤◌, ◌<◌, length}
 use Rattle.std.proofs.Math.Logic.{if_pos, if_neg}
-use Rattle.std.proofs.Common.{sym, ap, ◌∙◌, arith}
+use Rattle.std.proofs.Common.{sym, ap, ◌∙◌, arith, length-append}
 use Rattle.std.proofs.Math.Decide.{dec_lt}
 use Rattle.std.specs.Fmt.{decimal as printed}
 use Rattle.std.proofs.lemmas.Fmt.{AppendsLastDigit, decimal_from_appends, length-decimal-le}
@@ -47,6 +47,18 @@ pub decimal_three : (number : ℕ) → 100 ≤ number → number < 1000
 decimal_three number low high =
     decimal_more number (omega arith)
     ∙ ap (λ (l : List ℕ). l ++ (digit (number % 10) ∷ [])) (decimal_two (number / 10) (omega arith) (omega arith))
+
+-- a digit more than its tenth has
+pub length_more : (number : ℕ) → 10 ≤ number → length (decimal number) ≡ length (decimal (number / 10)) + 1
+length_more number h = ap length (decimal_more number h) ∙ length-append (decimal (number / 10)) (digit (number % 10) ∷ [])
+
+-- a number below 10 ^ (places + 1) has at most places + 1 of them
+pub short : (places number : ℕ) → number < 10 * 10 ^ places → length (decimal number) ≤ suc places
+short zero number h = omega (arith, ap length (decimal_one number (omega arith)))
+short (suc places) number h = elim (dec_lt number 10) [
+  | yes small ↦ omega (arith, ap length (decimal_one number small))
+  | no large ↦ omega (arith, length_more number (omega arith), short places (number / 10) (omega arith))
+]
 
 -- what the library prints of a number
 pub library_decimal : (number : ℕ) → number < 2 ^ 64 → printed number ≡ decimal number

@@ -1,16 +1,23 @@
--- Rooms and segments follow one another, and a picture looks at its n positions alone.
-use Rattle.std.specs.Prelude.{List, ◌++◌, ◌≡◌, refl, ℕ, zero, suc, ◌+◌, ◌-◌, ◌≤◌, ◌<◌}
-use Rattle.std.proofs.Common.{append-nil, append_assoc, sym, ◌∙◌, arith, add-one}
+-- Rooms and segments follow one another; what is read of a record is a plan; and a picture looks at its n positions alone.
+use Rattle.std.specs.Prelude.{List, ◌++◌, ◌≡◌, refl, ℕ, zero, suc, ◌+◌, ◌-◌, ◌≤◌, ◌<◌, Ok}
+use Rattle.std.proofs.Common.{append-nil, append_assoc, sym, ap, subst, ◌∙◌, arith, add-one}
+use Rattle.record.specs.Labels.{label_at}
+use Rattle.record.specs.Read.{labels_of}
 use Rattle.drawing.specs.declared.Room.{Room}
+use Rattle.drawing.specs.Within.{Within, drawn_within}
+use Rattle.drawing.specs.Corners.{room_in}
 use Rattle.contacts.specs.GridLine.{line_at, line_between}
 use Rattle.digits.specs.Ascii.{ascii}
+use Rattle.finite.specs.Put.{Put, put_none, put_more, put_as}
 use Rattle.text.specs.View.{Local}
+use Rattle.text.specs.Places.{corners}
+use Rattle.text.specs.Written.{Written, room_read}
 use Rattle.shapes.specs.Picture.{rectangle, names, rooms_drawn, segment_drawn, segments_drawn, head, picture}
 
 parts : (a b c d : List ℕ) → ((a ++ b) ++ c) ++ d ≡ a ++ (b ++ (c ++ d))
 parts a b c d = simp append_assoc
 
--- ---- a room more, and a segment more, follow those before
+-- ---- a room more, and a segment more, follow those before, in a text
 module _ (before : List ℕ) (label : ℕ → ℕ) (room : ℕ → Room) (n : ℕ) where
   pub no_rooms : before ≡ before ++ rooms_drawn label room n 0
   unfolding rooms_drawn
@@ -36,6 +43,56 @@ module _ (before : List ℕ) (label : ℕ → ℕ) (room : ℕ → Room) (n : �
       let below : suc k - 1 ≡ k = omega arith in
       let this : suc k + 1 - 1 ≡ suc k = omega arith in
       rw this ((rw (e, below) at f) ∙ append_assoc before (segments_drawn label room n k) _)
+
+-- ---- rooms and segments that are put into a store
+module _ (label : ℕ → ℕ) (room : ℕ → Room) (n : ℕ) where
+  -- ---- rooms, before the first turn
+  pub no_rooms_put : (text : List ℕ) (at : ℕ) → Put text at (rooms_drawn label room n 0) text at
+  unfolding rooms_drawn
+  no_rooms_put text at = put_none text at
+
+  -- a turn puts the room at the next position, which is i + 1
+  pub one_room : {before middle drawn after : List ℕ} {start at next end : ℕ} (i : ℕ) {here : Room} → here ≡ room (suc i)
+      → Put before start (rooms_drawn label room n i) middle at → Put middle at (rectangle n here) drawn next
+      → Put drawn next (names n (i + 1) (label (suc i)) here) after end → Put before start (rooms_drawn label room n (i + 1)) after end
+  unfolding rooms_drawn
+  one_room i is p q r =
+      put_as (ap (λ (k : ℕ). rooms_drawn label room n k) (sym (add-one i)))
+      (put_more p (put_more {part = rectangle n (room (suc i))} (put_as (λ t. rectangle n (is t)) q)
+      (put_as (λ t. names n (add-one i t) (label (suc i)) (is t)) r)))
+
+  -- after the last turn
+  pub all_rooms : {before after : List ℕ} {start at i : ℕ} → i ≡ n
+      → Put before start (rooms_drawn label room n i) after at → Put before start (rooms_drawn label room n n) after at
+  all_rooms e p = put_as (ap (λ (k : ℕ). rooms_drawn label room n k) e) p
+
+  -- ---- segments, before the first turn
+  pub no_segments_put : (text : List ℕ) (at : ℕ) → Put text at (segments_drawn label room n 0) text at
+  unfolding segments_drawn
+  no_segments_put text at = put_none text at
+
+  -- a turn puts the segment after the next position, which is k + 1
+  pub one_segment : {before middle after : List ℕ} {start at end : ℕ} (k : ℕ) {earlier later : Room}
+      → earlier ≡ room (suc k) → later ≡ room (suc (k + 1)) → Put before start (segments_drawn label room n k) middle at
+      → Put middle at (segment_drawn n (line_between (k + 1) (label (suc k)) (label (suc (k + 1))) earlier later)) after end
+      → Put before start (segments_drawn label room n (k + 1)) after end
+  unfolding segments_drawn
+  one_segment k is next p q =
+      let then = next ∙ ap (λ (j : ℕ). room (suc j)) (add-one k) in
+      put_as (ap (λ (j : ℕ). segments_drawn label room n j) (sym (add-one k)))
+      (put_more p
+      (put_as (λ t. segment_drawn n (line_between (add-one k t) (label (suc k)) (label (suc (add-one k t))) (is t) (then t))) q))
+
+  -- after the last turn
+  pub all_segments : {before after : List ℕ} {start at k : ℕ} → k ≡ n - 1
+      → Put before start (segments_drawn label room n k) after at → Put before start (segments_drawn label room n (n - 1)) after at
+  all_segments e p = put_as (ap (λ (k : ℕ). segments_drawn label room n k) e) p
+
+-- ---- what is read of a record is a plan
+pub within_read : {bytes : List ℕ} {n : ℕ} {labels left bottom right top : List ℕ} → Written bytes (Ok n) labels left bottom right top
+    → (k : ℕ) → k < n → Within n (room_in (corners left bottom right top) (suc k))
+within_read {bytes} {n} w k h =
+    subst (λ (room : Room). Within n room) (sym (room_read w k h)) (drawn_within (label_at (labels_of bytes)) n (suc k) (omega arith) h)
 
 -- ---- the picture looks at positions 1 to n alone
 module _ (label other : ℕ → ℕ) (room another : ℕ → Room) (n : ℕ)

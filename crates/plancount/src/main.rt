@@ -29,8 +29,8 @@ fn put_line(text: &mut Text<TEXT>, n: u8, rises: u8)
     ensures items { text.new.items ≡ text.old.items ++ line_of n rises (plan_count n rises) }
     ensures len { array_vec_len text.new ≤ array_vec_len text.old + 33 }
 {
-    text::put_form(text, b"% % ", &[u16::from(n), u16::from(rises)]);
-    text::put_last(text, figure(n, rises));
+    text::append_form(text, b"% % ", &[u16::from(n), u16::from(rises)]);
+    text::append_last(text, figure(n, rises));
 }
 
 // The whole text.

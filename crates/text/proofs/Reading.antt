@@ -1,49 +1,19 @@
 -- What `read_corners` answers and writes where there are 255 places: the record's plan, or its refusal.
-use Rattle.std.specs.Prelude.{List, ◌++◌, ◌≡◌, ℕ, suc, ◌≤◌, ◌<◌, length, get_or, drop, Result, Ok, Err}
-use Rattle.std.proofs.Common.{inl, inr, sym, ap, subst, ◌∙◌, arith}
+use Rattle.std.specs.Prelude.{List, ◌≡◌, ℕ, suc, ◌≤◌, ◌<◌, length, drop, Result, Ok, Err}
+use Rattle.std.proofs.Common.{inr, sym, ap, subst, ◌∙◌, arith}
 use Rattle.std.proofs.Math.Logic.{if_neg}
-use Rattle.std.proofs.Math.ListN.{get_or-append}
-use Rattle.finite.specs.Table.{get_d_table}
 use Rattle.record.specs.Labels.{label_at}
-use Rattle.record.specs.Read.{kind_of, body_of, labels_of}
-use Rattle.record.specs.Record.{triple_in}
-use Rattle.record.proofs.Backward.{length_decode}
+use Rattle.record.specs.Read.{kind_of, labels_of}
 use Rattle.record.specs.Checked.{checked, Readable, Refuses, Sorted, refused, read, sorted, refused_checked, readable_checked}
 use Rattle.record.specs.declared.Refusal.{Refusal}
 use Rattle.drawing.specs.Corners.{room_in}
-use Rattle.drawing.specs.Drawing.{room_at, drawing_of}
 use Rattle.drawing.specs.Within.{Within, drawn_within}
 use Rattle.drawing.specs.declared.Corners.{Corners}
 use Rattle.drawing.specs.declared.Room.{Room}
-use Rattle.answers.specs.Answer.{Short, dec_short, record_answer}
-use Rattle.answers.specs.Corners.{CornersIn, rooms_from}
+use Rattle.answers.specs.Answer.{dec_short, record_answer}
+use Rattle.answers.specs.Corners.{CornersIn}
 use Rattle.text.specs.Shown.{Holds}
-
--- ---- 255 places are enough for any record
-enough : (kind : ℕ) → kind ≤ 255 → ¬ Short kind 255 255
-enough kind h (inl s) = omega arith
-enough kind h (inr s) = omega arith
-
-length_labels : (bytes : List ℕ) → length (labels_of bytes) ≡ kind_of bytes
-unfolding labels_of
-length_labels bytes = length_decode (triple_in (body_of bytes)) (kind_of bytes)
-
--- a label that is written from the front of a list
-front_label : (labels : List ℕ) {n : ℕ} → length labels ≡ n → (k : ℕ) → k < n → {now : List ℕ} (rest : List ℕ) → now ≡ labels ++ rest
-    → get_or now k 0 ≡ get_or labels k 0
-front_label labels size k inside rest e = ap (λ (l : List ℕ). get_or l k 0) e ∙ get_or-append labels rest 0 k (omega arith)
-
--- a room of the drawing
-room_drawn : (labels : List ℕ) (corners : Corners) (n : ℕ) → length labels ≡ n → rooms_from corners n ≡ drawing_of labels → (k : ℕ) → k < n
-    → room_in corners (suc k) ≡ room_at (label_at labels) n (suc k)
-unfolding drawing_of
-room_drawn labels corners n size held k inside =
-    let room : ℕ → Room = λ i. room_in corners (suc i) in
-    let drawn : ℕ → Room = λ i. room_at (label_at labels) (length labels) (suc i) in
-    sym (get_d_table room n k (room 0) inside)
-    ∙ ap (λ (rooms : List Room). get_or rooms k (room 0)) held
-    ∙ get_d_table drawn (length labels) k (room 0) (omega arith)
-    ∙ ap (λ (m : ℕ). room_at (label_at labels) m (suc k)) size
+use Rattle.text.specs.Written.{enough, length_labels, front_label, room_drawn}
 
 module _ {bytes before labels : List ℕ} {corners : Corners} (byte : kind_of bytes ≤ 255) (places : length before ≡ 255) where
   checked_answer : {answer : Result ℕ Refusal} → CornersIn bytes before 255 answer labels corners

@@ -9,22 +9,22 @@ use Rattle.digits.specs.Digits.{decimal_short}
 use Rattle.text.specs.Form.{mark, filled}
 
 -- ---- the first byte of a form
-at_mark : (byte number : ℕ) (form numbers : List ℕ) → byte ≡ mark
+pub at_mark : (byte number : ℕ) (form numbers : List ℕ) → byte ≡ mark
     → filled (byte ∷ form) (number ∷ numbers) ≡ decimal number ++ filled form numbers
 unfolding filled
 at_mark byte number form numbers h = if_pos (ℕ_discrete byte mark) h _ _
 
-at_byte : (byte : ℕ) (form numbers : List ℕ) → byte ≢ mark → filled (byte ∷ form) numbers ≡ byte ∷ filled form numbers
+pub at_byte : (byte : ℕ) (form numbers : List ℕ) → byte ≢ mark → filled (byte ∷ form) numbers ≡ byte ∷ filled form numbers
 unfolding filled
 at_byte byte form [] h = refl
 at_byte byte form (number ∷ numbers) h = if_neg (ℕ_discrete byte mark) h _ _
 
-no_number : (form : List ℕ) → filled form [] ≡ form
+pub no_number : (form : List ℕ) → filled form [] ≡ form
 unfolding filled
 no_number [] = refl
 no_number (byte ∷ form) = refl
 
-no_form : (numbers : List ℕ) → filled [] numbers ≡ []
+pub no_form : (numbers : List ℕ) → filled [] numbers ≡ []
 unfolding filled
 no_form [] = refl
 no_form (number ∷ numbers) = refl

@@ -1,78 +1,87 @@
-// Text in memory of fixed size: forms with numbers in them, of which all that the programs print is made. And the plan that is printed.
+// Forms with numbers in them, of which all that the programs print is made: put into a lent store, as here and in planlist and
+// plandraw, or appended to a text in memory of fixed size, as in plancount. And the plan that is printed.
 #![tactic(auto)]
 
-ghost use Rattle.std.specs.Prelude.{◌≡◌, ◌++◌, ◌+◌, ◌*◌, ◌≤◌, length, IfOk, IfErr};
-ghost use Rattle.arrayvec.specs.ArrayVec.{array_vec_len};
+ghost use Rattle.std.specs.Prelude.{[], ◌∷◌, ◌+◌, ◌*◌, ◌≤◌, ◌<◌, length, IfOk, IfErr};
 ghost use Rattle.record.specs.Refusal.{number_of};
 ghost use Rattle.digits.specs.Decimal.{newline, decimal, field};
 ghost use Rattle.text.specs.Form.{filled};
+ghost use Rattle.finite.specs.Put.{Put};
 ghost use Rattle.record.specs.Checked.{Refuses};
 ghost use Rattle.text.specs.View.{refused_line};
 ghost use Rattle.text.specs.Shown.{IsPlanOf};
 
+mod append;
 mod record_plan;
 
-use arrayvec::ArrayVec;
+pub use append::{Text, append_form, append_last, refusal_line};
 use drawing::Corners;
-use itoa::Buffer;
 use record::Refusal;
 pub use record_plan::Plan;
 
-// A program's whole text, of at most N bytes: each program gives the places that its longest text takes. The room that is left is a clause of
-// each function that puts something, and no type: it is another number for each.
-pub type Text<const N: usize> = ArrayVec<u8, N>;
-
-// Appends the digits of a number. Not by `write!`: its contract does not say that it succeeds where there is room, and the
-// programs' contracts state the whole text.
-#[tactic(auto, using(digits::specs::Digits::library_decimal))]
-fn put_number<const N: usize>(text: &mut Text<N>, number: u64)
-    requires { array_vec_len text.old + length (decimal number) ≤ N }
-    ensures items { text.new.items ≡ text.old.items ++ decimal number }
-    ensures len { array_vec_len text.new ≡ array_vec_len text.old + length (decimal number) }
+// Puts a byte after the text so far, which ends at `at`, and answers where the text then ends. So do all that follow.
+fn put_byte(text: &mut [u8], at: usize, byte: u8) -> usize
+    requires { at < length text.old }
+    ensures { Put text.old at (byte ∷ []) text.new result }
 {
-    let mut digits = Buffer::new();
-    let digits = digits.format(number);
-    text.try_extend_from_slice(digits.as_bytes()).unwrap();
+    text[at] = byte;
+    at + 1
 }
 
-// Appends a number that may be a large one, and ends the line.
-#[tactic(auto, using(digits::specs::Digits::decimal_wide))]
-pub fn put_last<const N: usize>(text: &mut Text<N>, number: u64)
-    requires { array_vec_len text.old + 21 ≤ N }
-    ensures items { text.new.items ≡ text.old.items ++ field number newline }
-    ensures len { array_vec_len text.new ≤ array_vec_len text.old + 21 }
+// Puts the digits of a number: those of its tenth, then the last one. Not by `itoa`, as append.rt does: for numbers of one digit this takes
+// a third of the time, and for those of three the same.
+fn put_number(text: &mut [u8], at: usize, number: u64) -> usize
+    requires { at + length (decimal number) ≤ length text.old }
+    ensures { Put text.old at (decimal number) text.new result }
 {
-    put_number(text, number);
-    text.push(b'\n');
-}
-
-// Appends a form, with the next number in the place of each `%`.
-pub fn put_form<const N: usize>(text: &mut Text<N>, form: &[u8], numbers: &[u16])
-    requires { array_vec_len text.old + length form.now + 4 * length numbers.now ≤ N }
-    ensures items { text.new.items ≡ text.old.items ++ filled form.now numbers.now }
-    ensures len { array_vec_len text.new ≤ array_vec_len text.old + length form.now + 4 * length numbers.now }
-{
-    let mut left = numbers;
-    for &byte in form {
-        match left {
-            [number, rest @ ..] if byte == b'%' => {
-                put_number(text, u64::from(*number));
-                left = rest;
-            }
-            _ => text.push(byte),
-        }
+    if number < 10 {
+        return put_byte(text, at, b'0' + number as u8);
     }
+    let at = put_number(text, at, number / 10);
+    put_byte(text, at, b'0' + (number % 10) as u8)
 }
 
-// The line of a refused record.
-#[tactic(auto, unfolding(crate::specs::Form::filled))]
-pub fn refusal_line<const N: usize>(refusal: Refusal) -> Text<N>
-    requires { 14 ≤ N }
-    ensures { result.items ≡ refused_line (number_of refusal) }
+// Puts a number that may be a large one, and ends the line.
+pub fn put_last(text: &mut [u8], at: usize, number: u64) -> usize
+    requires { at + 21 ≤ length text.old }
+    ensures { Put text.old at (field number newline) text.new result × (result ≤ at + 21) }
 {
-    let mut text = Text::new();
-    put_form(&mut text, b"refused %\n", &[u16::from(refusal.number())]);
-    text
+    let at = put_number(text, at, number);
+    put_byte(text, at, b'\n')
+}
+
+// Puts a form, with the next number in the place of each `%`. A while over an index: with a `for` over the form's bytes, proved too, the
+// compiler did not write out the forms of a picture, and one of 255 rooms took twice the time.
+pub fn put_form(text: &mut [u8], start: usize, form: &[u8], numbers: &[u16]) -> usize
+    requires { start + length form.now + 4 * length numbers.now ≤ length text.old }
+    ensures { Put text.old start (filled form.now numbers.now) text.new result
+        × (result ≤ start + length form.now + 4 * length numbers.now) }
+{
+    let mut at = start;
+    let mut i = 0;
+    let mut k = 0;
+    while i < form.len() {
+        let byte = form[i];
+        i += 1;
+        if byte == b'%' {
+            if k < numbers.len() {
+                at = put_number(text, at, u64::from(numbers[k]));
+                k += 1;
+                continue;
+            }
+        }
+        at = put_byte(text, at, byte);
+    }
+    at
+}
+
+// Puts the line of a refused record from the front.
+#[tactic(auto, unfolding(crate::specs::Form::filled))]
+pub fn put_refusal(text: &mut [u8], refusal: Refusal) -> usize
+    requires { 14 ≤ length text.old }
+    ensures { Put text.old 0 (refused_line (number_of refusal)) text.new result × (result ≤ 14) }
+{
+    put_form(text, 0, b"refused %\n", &[u16::from(refusal.number())])
 }
 
 impl Plan {

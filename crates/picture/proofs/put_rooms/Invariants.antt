@@ -1,12 +1,13 @@
--- `put_rooms`: after i turns the rooms at the first i positions are put.
-use Rattle.std.proofs.Common.{◌≡◌, ◌++◌, ◌+◌, ◌*◌, ◌≤◌, length}
+use Rattle.std.proofs.Common.{◌+◌, ◌*◌, ◌≤◌}
 use Rattle.record.specs.Labels.{label_at}
 use Rattle.drawing.specs.Corners.{room_in}
+use Rattle.finite.specs.Put.{Put}
+use Rattle.text.specs.Places.{corners}
 use Rattle.shapes.specs.Picture.{rooms_drawn}
 use Rattle.picture.proofs.put_rooms.Given as goal
 
 abbrev pub invariant-loop-i : goal.invariant-loop-i
-invariant-loop-i g l = record {
-  put : l.text.items ≡ l.initial.text.items ++ rooms_drawn (label_at l.plan.labels) (room_in l.plan.corners) l.plan.n l.i;
-  short : length l.text.items ≤ length l.initial.text.items + 154 * l.i;
+invariant-loop-i l = record {
+  put : Put l.initial.text l.start (rooms_drawn (label_at l.labels) (room_in (corners l.left l.bottom l.right l.top)) l.n l.i) l.text l.at;
+  short : l.at ≤ l.start + 154 * l.i;
 }

@@ -1,12 +1,20 @@
--- `put_picture`: what is shown of the record's plan, and the line of its refusal, is what is printed of it.
-use Rattle.std.proofs.Common.{◌∙◌}
+-- `put_picture`: what is shown of the record's plan, and the line of its refusal, is what is printed of it; and the text is put whole.
+use Rattle.std.proofs.Common.{ap, ◌∙◌, ℕ, arith}
+use Rattle.text.specs.Places.{view_in}
+use Rattle.text.specs.Puts.{put_whole}
 use Rattle.text.specs.Viewed.{refused_printed, shown_printed}
 use Rattle.shapes.specs.Picture.{picture}
 use Rattle.picture.specs.Drawn.{picture_local}
 use Rattle.plandraw.proofs.put_picture.Goals as goal
 
 pub returns-in-Ok : goal.returns-in-Ok
-returns-in-Ok c = c.picture.ensures ∙ shown_printed picture picture_local c.in-Ok.plan c.in-Ok.ensures.plan
+returns-in-Ok c =
+    let plan = c.in-Ok.plan in
+    let all = c.put_plan.ensures in
+    let shown = ap (λ (n : ℕ). view_in picture plan.labels plan.corners.left plan.corners.bottom plan.corners.right plan.corners.top n) c.from-n.ensures in
+    put_whole (omega (arith, c.requires, all.1)) (shown ∙ shown_printed picture picture_local plan c.in-Ok.ensures.plan) all.0
 
 pub returns-in-Err : goal.returns-in-Err
-returns-in-Err c = c.refusal_line.ensures ∙ refused_printed picture c.in-Err.ensures.refused
+returns-in-Err c =
+    let line = c.put_refusal.ensures in
+    put_whole (omega (arith, c.requires, line.1)) (refused_printed picture c.in-Err.ensures.refused) line.0
