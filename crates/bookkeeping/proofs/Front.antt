@@ -1,9 +1,9 @@
 -- The record that begins some bytes, as the code cuts it out.
 use mathlib.Core.List.{List, [], ◌∷◌}
 use mathlib.Core.Path.{◌≡◌, sym, ap, ◌∙◌}
-use Prim.Native.Nat.{ℕ, zero, suc, ◌-◌}
+use Prim.Native.Nat.{ℕ, zero, suc, ◌-◌, ◌≤◌}
 use native.Mathlib.Omega.{arith}
-use lib.ListN.{length, take, drop, take-append-drop}
+use lib.ListN.{length, take, drop, length-take, take-append-drop}
 use lib.Seq.{take-nil, take-append_seam}
 use Rattle.book.specs.Book.{size_of, front}
 use Rattle.book.specs.Answer.{rest_at, record_at}
@@ -12,6 +12,9 @@ use Rattle.book.specs.Answer.{rest_at, record_at}
 pub front_taken : (bytes : List ℕ) → take (length (front bytes)) bytes ≡ front bytes
 front_taken bytes =
     ap (take (length (front bytes))) (sym (take-append-drop (size_of bytes) bytes)) ∙ take-append_seam (front bytes) (drop (size_of bytes) bytes)
+
+pub front_short : (bytes : List ℕ) → length (front bytes) ≤ length bytes
+front_short bytes = omega (arith, length-take (size_of bytes) bytes)
 
 -- a part from a place to the end of the used part is the used part from that place on
 pub rest_is : (book : List ℕ) (used place : ℕ) → take (used - place) (drop place book) ≡ rest_at book used place

@@ -48,6 +48,20 @@ pub record Summing (bytes : List ℕ) (place : ℕ) (s : Summary) : Type 0 where
   pub rooms_few : s.rooms ≤ 255 * s.plans
   pub parts : s.rises + s.falls + s.plans ≡ s.rooms
 
+pub summing_first : (bytes : List ℕ) → Summing bytes 0 (held 0 0 0 0)
+summing_first bytes = record {
+  inside = omega arith;
+  bad_on = λ b. b;
+  good_on = λ g. g;
+  plans_on = omega arith;
+  rooms_on = omega arith;
+  rises_on = omega arith;
+  falls_on = omega arith;
+  plans_few = omega arith;
+  rooms_few = omega arith;
+  parts = omega arith;
+}
+
 module _ {bytes : List ℕ} {place : ℕ} {s : Summary} (now : Summing bytes place s) where
   -- at the end of the bytes all are summed up
   pub summing_end : ¬ (place < length bytes) → GoodBook bytes × (s ≡ summary_of bytes)
@@ -81,7 +95,7 @@ module _ {bytes : List ℕ} {place : ℕ} {s : Summary} (now : Summing bytes pla
       two : records_of (drop place bytes) ≡ one ∷ records_of (drop next bytes)
       two = records_on (drop place bytes) some accepts.readable ∙ ap (λ (rest : List ℕ). one ∷ records_of rest) (drop-drop (length one) place bytes)
 
-      summing_moves : place < next
+      pub summing_moves : place < next
       summing_moves = omega (arith, some, length-take (size_of (drop place bytes)) (drop place bytes))
 
       pub summing_next : Summing bytes next (counted_in s judged)

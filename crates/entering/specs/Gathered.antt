@@ -30,7 +30,7 @@ module _ (copied : CopiedRooms) (n : ℕ) (size : Sized copied) (few : n ≤ 255
   abbrev front : List ℕ → List ℕ
   front numbers = take n numbers
 
-  front_size : (numbers : List ℕ) → length numbers ≡ 255 → length (front numbers) ≡ n
+  pub front_size : (numbers : List ℕ) → length numbers ≡ 255 → length (front numbers) ≡ n
   front_size numbers e = length-take-le n numbers (omega arith)
 
   pub names_size : length (front copied.name) ≡ length (front copied.left)

@@ -83,7 +83,7 @@ module _ (body : List ℕ) (used : ℕ) (long : length body ≡ (used + 7) / 8) 
   abbrev spare : ℕ
   spare = 8 * length body - used
 
-  none_spare : get_or body last 0 < 256 → cleared (get_or body last 0) spare ≡ get_or body last 0 → ¬ Some (λ i. bit_at body i ≡ true) used (8 * length body)
+  pub none_spare : get_or body last 0 < 256 → cleared (get_or body last 0) spare ≡ get_or body last 0 → ¬ Some (λ i. bit_at body i ≡ true) used (8 * length body)
   none_spare fits same (i, a, b, e) = clash (at_last ∙ low_clear (get_or body last 0) spare (same_none (get_or body last 0) spare fits (omega arith) same) (omega arith) (i - 8 * last) (omega arith) (omega arith)) e
     where
       at_last : bit_at body i ≡ bit_in (get_or body last 0) (i - 8 * last)
@@ -92,7 +92,7 @@ module _ (body : List ℕ) (used : ℕ) (long : length body ≡ (used + 7) / 8) 
       clash : {x : Bool} → x ≡ false → x ≡ true → ⊥
       clash p q = let z : ◌≡◌ {A = ℕ} 0 1 = cc in omega arith
 
-  some_spare : get_or body last 0 < 256 → cleared (get_or body last 0) spare ≢ get_or body last 0 → Some (λ i. bit_at body i ≡ true) used (8 * length body)
+  pub some_spare : get_or body last 0 < 256 → cleared (get_or body last 0) spare ≢ get_or body last 0 → Some (λ i. bit_at body i ≡ true) used (8 * length body)
   some_spare fits other =
       let r = low_some (get_or body last 0) spare (other_some (get_or body last 0) spare fits (omega arith) other) (omega arith) in
       (8 * last + r.0, omega (arith, r.1), omega (arith, r.2), bit_at_byte body last r.0 r.2 ∙ r.3)

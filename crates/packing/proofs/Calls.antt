@@ -24,7 +24,7 @@ use Rattle.std.specs.Prelude.{Ok, Err}
 use Rattle.sizes.specs.Answer.{slack_each_way, corners_answer, slack_answer, placing_answer}
 use Rattle.sizes.specs.Demand1.{OtherSizes, refused, short, placed, no_slack, slack_is, no_placing, broken, accepted, demand1_corners_answer, demand1_slack_answer, demand1_placing_answer}
 use Rattle.packing.specs.Admitted.{OtherLengths, Admitted}
-use Rattle.judging.specs.Walkable.{labels_in, Walkable, readable_walkable, labels_in_body}
+use Rattle.judging.specs.Walkable.{labels_in, Walkable, readable_has_bytes, readable_walkable, labels_in_body}
 use Rattle.placing.specs.Along.{LowestFor}
 use Rattle.packing.proofs.Admitted.{same_lengths}
 
@@ -41,6 +41,9 @@ module _ {bytes : List ℕ} {n : ℕ} {sizes : EachWay (List ℕ)} {corners : Ea
 
   pub corner_is : (way : Direction) → corners way ≡ n
   corner_is way = same_lengths (λ h. a.sized.same_length (inr h)) way ∙ sym a.kind
+
+  pub has_bytes : 1 ≤ length bytes
+  has_bytes = readable_has_bytes a.sized.readable a.kind a.few
 
   pub walkable : {m : ℕ} → m ≡ n → Walkable (tail bytes) m
   walkable e = subst (Walkable (tail bytes)) (sym e) (readable_walkable a.sized.readable a.kind a.few)

@@ -212,7 +212,7 @@ Ends last end left below = (end ≡ last) ⊎ ((end ≡ 0) × (left ≡ 1) × (b
 pub both_bit : {left below : ℕ} → left ≤ 1 → below ≤ 1 → bit_and left below ≤ 1
 both_bit {left} {below} small also = omega (arith, and_le_l left below)
 
-ends_next : (last end left below : ℕ) {at : ℕ} → end ≡ last → left ≤ 1 → below ≤ 1 → at ≡ either (bit_and left below) 0 end
+pub ends_next : (last end left below : ℕ) {at : ℕ} → end ≡ last → left ≤ 1 → below ≤ 1 → at ≡ either (bit_and left below) 0 end
     → Ends last at left below
 ends_next last end zero below is small also e = inl (omega arith)
 ends_next last end (suc zero) zero is small also e = inl (omega arith)

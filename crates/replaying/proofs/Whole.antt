@@ -14,7 +14,8 @@ use Rattle.traces.proofs.Row.{ended_iff_leads}
 use Rattle.std.specs.Prelude.{Ok, Err}
 use Rattle.traces.specs.Answer.{TraceAnswer, replay_answer, trace_answer, entries_of, Traced}
 use Rattle.traces.specs.declared.Replayed.{Replayed}
-use Rattle.traces.specs.declared.TraceError.TheVariants.{Refused}
+use Rattle.record.specs.declared.Refusal.{Refusal}
+use Rattle.traces.specs.declared.TraceError.TheVariants.{Refused, RefusedMove}
 use Rattle.replaying.specs.Passes.{judged_of, filled_by}
 
 abbrev answer_from : TraceAnswer → (capacity : ℕ) → TraceAnswer
@@ -35,7 +36,15 @@ module _ (bytes before : List ℕ) where
       ap (λ (j : TraceAnswer). answer_from j (length before)) e ∙ answer_from_lem (replay (moves_of bytes)) (length before)
       ∙ sym (if_neg (dec_lt 65535 (length bytes)) (omega arith) _ _)
 
+  pub stopped_whole : length bytes ≤ 65535 → {refusal : Refusal} {ordinal rooms runs : ℕ}
+      → Err (RefusedMove refusal ordinal rooms runs) ≡ judged_of (replay (moves_of bytes))
+      → Traced bytes before (Err (RefusedMove refusal ordinal rooms runs)) before
+  stopped_whole h e = record { answered = answers h _ e; left = refl }
+
   module _ (h : length bytes ≤ 65535) {replayed : Replayed} (e : Ok replayed ≡ judged_of (replay (moves_of bytes))) where
+    pub short_whole : length before < replayed.moves → Traced bytes before (Err (Refused ShortOutput)) before
+    short_whole short = record { answered = sym (if_pos (dec_lt (length before) replayed.moves) short _ _) ∙ answers h _ e; left = refl }
+
     -- no move is refused, and they are so many
     pub ended_leads : (replayed.moves ≡ length (moves_of bytes)) × NoneRefused (moves_of bytes)
     ended_leads = go (replay (moves_of bytes)) refl e

@@ -17,21 +17,27 @@ use Rattle.labels.specs.Verdicts.{verdict_refused}
 use Rattle.patterns.specs.Answer.{pattern_answer}
 use Rattle.patterns.specs.declared.Pattern.{Pattern}
 use Rattle.patterns.proofs.FirstOne.{first_pattern}
-use Rattle.patterns.proofs.M105.{first, m105_answer}
+use Rattle.patterns.proofs.M105.{first, refused, m105_answer}
 use Rattle.patterns.proofs.Scope.{none_left}
 use Rattle.searching.specs.Search.{SearchedTo}
 
-module _ (labels : List ℕ) (p : Permutation labels) where
-  barred : {refusal : Refusal} → RefusesLabels labels refusal → Barred (label_at labels) (length labels)
-  barred (judged.not_permutation (judged.count bad)) = absurd (p.count bad)
-  barred (judged.not_permutation (judged.outside _ out)) = absurd (p.inside out)
-  barred (judged.not_permutation (judged.twice _ _ again)) = absurd (p.single again)
-  barred (judged.barred _ b) = b
+module _ (labels : List ℕ) where
+  pub barred_permutation : Permutation labels → {refusal : Refusal} → RefusesLabels labels refusal
+      → Barred (label_at labels) (length labels)
+  barred_permutation p (judged.not_permutation (judged.count bad)) = absurd (p.count bad)
+  barred_permutation p (judged.not_permutation (judged.outside _ out)) = absurd (p.inside out)
+  barred_permutation p (judged.not_permutation (judged.twice _ _ again)) = absurd (p.single again)
+  barred_permutation p (judged.barred _ b) = b
 
+  pub refused_answer : ¬ Permutation labels → {refusal : Refusal} → RefusesLabels labels refusal → Err refusal ≡ pattern_answer labels
+  refused_answer not (judged.not_permutation cause) = m105_answer labels (refused cause)
+  refused_answer not (judged.barred p _) = absurd (not p)
+
+module _ (labels : List ℕ) (p : Permutation labels) where
   pub barred_judged : (verdict : Result (Unit {0}) Refusal) → verdict ≡ verdict_of labels → is_ok verdict ≡ false
       → Barred (label_at labels) (length labels)
   barred_judged (Ok tt) is not = let z : ◌≡◌ {A = ℕ} 0 1 = cc in absurd (omega arith)
-  barred_judged (Err refusal) is not = barred (verdict_refused labels is)
+  barred_judged (Err refusal) is not = barred_permutation labels p (verdict_refused labels is)
 
   pub found_in_barred : (found : Option Pattern) → SearchedTo (label_at labels) (length labels) (length labels) found
       → Barred (label_at labels) (length labels) → Ok found ≡ pattern_answer labels

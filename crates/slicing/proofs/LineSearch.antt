@@ -1,7 +1,7 @@
 -- Looking for a line from both ends of a block at once. From the left, `end` is past the place of each room that was looked at; from
 -- the right, `start` is at or before it; and a line can stand from `end` to `start` only.
 use Rattle.std.proofs.Common.{inl, inr, subst, arith}
-use Rattle.std.specs.Prelude.{◌≡◌, ℕ, ◌+◌, ◌-◌, ◌≤◌, ◌<◌, min, max}
+use Rattle.std.specs.Prelude.{◌≡◌, ℕ, suc, ◌+◌, ◌-◌, ◌≤◌, ◌<◌, min, max}
 use Rattle.finite.specs.Decide.{eq_or_ne}
 use Rattle.finite.specs.Search.{Each}
 use Rattle.slicing.specs.Cuts.{Parts}
@@ -23,6 +23,19 @@ pub record Searching (f : ℕ → ℕ) (cut : Cut) (s e lowest i end j start : �
   pub lines : (m : ℕ) → s < m → m < e → Parts f cut s m e → (end ≤ m) × (m ≤ start)
 
 module _ {f : ℕ → ℕ} {cut : Cut} {s e lowest : ℕ} where
+  pub search_begins : suc s < e → Searching f cut s e lowest s (s + 1) e (e - 1)
+  search_begins several = record {
+    from = omega arith;
+    some = omega arith;
+    upto = omega arith;
+    downto = omega arith;
+    more = omega arith;
+    until = omega arith;
+    first = λ k a b. absurd (omega arith);
+    last = λ k a b. absurd (omega arith);
+    lines = λ m a b line. (omega arith, omega arith);
+  }
+
   module _ (interval : Interval f s e lowest) {i end j start : ℕ} (c : Searching f cut s e lowest i end j start) where
     -- a room more from the left, and one more from the right
     pub search_goes_on : {next prior : ℕ} → end ≤ start → i < end → start < j → next ≡ max end (place_of cut s e lowest (f i) + 1)

@@ -1,6 +1,6 @@
 -- The table of the walk in one line: of the runs that the new label meets below it and above it, those that it is joined to count no more.
 -- Where it lies above the current run, that run is one more below it; where it lies below, one more above it.
-use Rattle.std.specs.Prelude.{true, false, List, ◌≡◌, refl, ℕ, zero, suc, ◌+◌, ◌<◌, get_or, set}
+use Rattle.std.specs.Prelude.{true, false, List, ◌≢◌, ◌≡◌, refl, ℕ, zero, suc, ◌+◌, ◌≤◌, ◌<◌, get_or, set}
 use Rattle.std.proofs.Common.{inl, inr, sym, ap, ap₂, ◌∙◌, arith, add-zero, length-set, get_or-set_same, get_or-set_other}
 use Rattle.finite.specs.Decide.{eq_or_ne}
 use Rattle.bits.specs.Bit.{bit}
@@ -9,8 +9,9 @@ use Rattle.record.specs.Walk.{Counts, missing, counts, step, and_then, walk}
 use Rattle.record.specs.Way.{up, down}
 use Rattle.record.specs.TripleNumber.{triple_of}
 use Rattle.record.specs.Decode.{bits_of}
+use Rattle.steps.specs.declared.Turn.{Turn}
 use Rattle.steps.specs.Passes.{Unpacked}
-use Rattle.steps.specs.Turn.{rises_by, falls_by}
+use Rattle.steps.specs.Turn.{Says, rises_by, falls_by}
 use Rattle.steps.specs.Counts.{less}
 
 -- one more triple is noted
@@ -63,6 +64,13 @@ pub once_risen : (t : Triple) → rises_by t + falls_by t ≡ 1
 once_risen (triple first second false) = refl
 once_risen (triple first second true) = refl
 
+-- what the code was told of a triple is at most 1
+pub rises_small : {t : Triple} {turn : Turn} → Says t turn → turn.rises ≤ 1
+rises_small {t} s = omega (arith, s.rises_is, once_risen t)
+
+pub falls_small : {t : Triple} {turn : Turn} → Says t turn → turn.falls ≤ 1
+falls_small {t} s = omega (arith, s.falls_is, once_risen t)
+
 -- ---- the rows, with 2 added to both counts
 pub less_is : {x y p q : ℕ} → x ≡ suc (suc p) → y ≡ suc (suc q) → less x y ≡ counts p q
 unfolding less
@@ -98,3 +106,13 @@ rows (triple false true true) zero q x y e f = less_below x y (omega arith)
 rows (triple false true true) (suc p) q x y e f = less_is (omega arith) (omega arith)
 rows (triple true true true) zero q x y e f = less_below x y (omega arith)
 rows (triple true true true) (suc p) q x y e f = less_is (omega arith) (omega arith)
+
+-- the last row is that of the number that is none of 0 to 6
+pub seven : (x : ℕ) → x < 8 → (x ≢ 0) → (x ≢ 1) → (x ≢ 2) → (x ≢ 3) → (x ≢ 4) → (x ≢ 5) → (x ≢ 6) → x ≡ 7
+seven x h a b c d e f g = last x h (four x a b c d) e f g
+  where
+    four : (x : ℕ) → (x ≢ 0) → (x ≢ 1) → (x ≢ 2) → (x ≢ 3) → 4 ≤ x
+    four x a b c d = omega arith
+
+    last : (x : ℕ) → x < 8 → 4 ≤ x → (x ≢ 4) → (x ≢ 5) → (x ≢ 6) → x ≡ 7
+    last x h l e f g = omega arith

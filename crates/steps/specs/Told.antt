@@ -12,6 +12,12 @@ pub bit_le : (b : Bool) → bit b ≤ 1
 bit_le true = omega arith
 bit_le false = omega arith
 
+pub above_small : {u : Triple} {turn : Turn} → Says u turn → turn.above ≤ 1
+above_small {u} s = omega (arith, s.above_is, bit_le (bits_of u up))
+
+pub below_small : {u : Triple} {turn : Turn} → Says u turn → turn.below ≤ 1
+below_small {u} s = omega (arith, s.below_is, bit_le (bits_of u down))
+
 -- a triple in numbers
 unfoldable pub turn_for : Triple → Turn
 turn_for u = record { above = bit (bits_of u up); below = bit (bits_of u down); rises = rises_by u; falls = falls_by u }

@@ -86,6 +86,12 @@ module _ (rises falls left : ℕ) (some : left ≤ rises) (few : rises + falls �
     pub rest : (j : ℕ) → b ≤ j → j ≤ falls → Shows (plane_after left j) (110 * suc j) (suc rises - left) (falls - j) planes
     pub most : b ≤ suc falls
 
+  pub sweeping_first : {planes : List ℕ} → Planes rises falls left planes → Sweeping 0 planes
+  sweeping_first p = record { size = p.size; zeros = p.zeros; done = λ j h. absurd (omega arith); rest = λ j h l. p.each j l; most = omega arith }
+
+  pub sweeping_end : {b : ℕ} {planes : List ℕ} → Sweeping b planes → falls < b → Planes rises falls (suc left) planes
+  sweeping_end s h = record { size = s.size; zeros = s.zeros; each = λ j l. shows_as (s.done j (omega arith)) refl (omega arith) (omega arith) }
+
   module _ {b low far : ℕ} {planes : List ℕ} (s : Sweeping b planes) (more : b ≤ falls) (e-low : low ≡ min b (rises - left)) (e-far : far ≡ min left (falls - b)) where
     turn : Step (plane_after left b) (fallen (suc left) b) (plane_after (suc left) b) (rises - left) (falls - b) low far
     turn = one_step b low far more e-low e-far

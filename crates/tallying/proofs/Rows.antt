@@ -1,7 +1,7 @@
 -- Rows and planes that are swept in place: what a figure comes from still stands when its turn comes.
 use mathlib.Core.List.{List}
 use mathlib.Core.Logic.{inl, inr}
-use mathlib.Core.Path.{◌≡◌, subst, ◌∙◌}
+use mathlib.Core.Path.{◌≡◌, refl, subst, ◌∙◌}
 use Prim.Native.Nat.{ℕ, ◌+◌, ◌-◌, ◌*◌, ◌^◌, ◌≤◌, ◌<◌}
 use native.Mathlib.Omega.{arith}
 use lib.ListN.{get_or}
@@ -24,6 +24,10 @@ cell_same before now at later earlier h =
       earlier (at - 120) (omega arith),
       earlier (at - 121) (omega arith),
     )
+
+pub row_cell : {start at : ℕ} {before now : List ℕ} → Filling (cell_of before) start at before now → 121 ≤ start → start ≤ at → at ≤ start + 9
+    → cell_of now at ≡ cell_of before at
+row_cell {start} {at} {before} {now} k a b c = cell_same before now at (λ j l. k.kept j (inr l)) (λ j l. k.kept j (inl (omega arith))) (omega arith)
 
 -- ---- row by row
 module _ {start rows columns : ℕ} {before : List ℕ} (fits : PlaneFits start rows columns before) where
@@ -61,3 +65,6 @@ module _ {start rows columns : ℕ} {before : List ℕ} (fits : PlaneFits start 
       ];
       kept = λ k outside. fill.kept k (outside i (omega arith)) ∙ s.kept k (λ j h. outside j (omega arith));
     }
+
+pub swept_none : (start columns : ℕ) (before : List ℕ) → Swept start 0 columns before before
+swept_none start columns before = record { size = refl; done = λ i c h. absurd (omega arith); kept = λ k outside. refl }

@@ -30,7 +30,7 @@ use Rattle.tidy.specs.Labels.{TidiedLabels}
 pub long_breaks : (text : List ℕ) → 4096 < length text → BreaksForm text
 long_breaks text h k = omega (arith, k.short)
 
-unread_breaks : (text : List ℕ) → ¬ Done (run start (line_of text)) → BreaksForm text
+pub unread_breaks : (text : List ℕ) → ¬ Done (run start (line_of text)) → BreaksForm text
 unread_breaks text h k = h (lists_done k.lists)
 
 -- a text that is
