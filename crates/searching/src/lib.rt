@@ -7,7 +7,7 @@ ghost use Rattle.record.specs.Judged.{Permutation};
 ghost use Rattle.patterns.specs.Answer.{pattern_answer};
 ghost use Rattle.patterns.specs.Sides.{NextTo, Beyond};
 ghost use Rattle.patterns.specs.Scope.{NoneIn, StartsBefore};
-ghost use Rattle.searching.specs.Places.{Places, PlacedOrRefused, PlaceNextTo};
+ghost use Rattle.searching.specs.Places.{Places, PlacedOrNot, PlaceNextTo};
 ghost use Rattle.searching.specs.Search.{FirstBetween, Completes, SearchedTo, pattern_at};
 
 use patterns::{Condition, Pattern};
@@ -24,26 +24,23 @@ struct Placed<'a> {
     ghost placed: { Places (label_at labels.now) (length labels.now) places.now },
 }
 
-// Lists the position of each label of 1 to n, each once; or the refusal with 1, 6 or 7, in this order.
-fn list_places(labels: &[u8], places: &mut [u8; 257]) -> Result<(), Refusal>
+// Lists the position of each label, and tells whether the labels are 1 to n, each once, and at most 255; else the rest is left out.
+fn list_places(labels: &[u8], places: &mut [u8; 257]) -> bool
     requires { places.old ≡ replicate 257 0 }
-    ensures { PlacedOrRefused labels.now places.new result }
+    ensures { PlacedOrNot labels.now places.new result }
 {
     let n = labels.len();
-    if n == 0 || 255 < n {
-        return Err(Refusal::Count);
-    }
-    if labels::outside(labels) {
-        return Err(Refusal::LabelOutside);
+    if n == 0 || 255 < n || labels::outside(labels) {
+        return false;
     }
     for i in 0..n {
         let at = Label(labels[i]).index();
         if places[at] != 0 {
-            return Err(Refusal::LabelTwice);
+            return false;
         }
         places[at] = (i + 1) as u8;
     }
-    Ok(())
+    true
 }
 
 // The label next above a label, or where `above` is false next below it. Here and below a side is a bool, as comparing two labels gives it.
@@ -160,10 +157,15 @@ pub fn pattern(labels: &[u8]) -> Result<Option<Pattern>, Refusal>
     ensures { result ≡ pattern_answer labels.now }
 {
     let mut places = [0u8; 257];
-    list_places(labels, &mut places)?;
-    let placed = Placed {
-        labels,
-        places: &places,
-    };
-    Ok(placed.first_pattern())
+    if list_places(labels, &mut places) {
+        let placed = Placed {
+            labels,
+            places: &places,
+        };
+        return Ok(placed.first_pattern());
+    }
+    match labels::judge(labels) {
+        Ok(()) => Ok(None),
+        Err(refusal) => Err(refusal),
+    }
 }

@@ -1,24 +1,14 @@
 -- `searching::list_places` meets its contract: the positions passed are placed, and none of their labels occurs twice.
-use mathlib.Core.Logic.{inl, inr}
 use mathlib.Core.Path.{sym, subst}
 use Prim.Native.Nat.{ℕ, suc}
 use native.Mathlib.Omega.{arith}
-use lib.ListN.{length, get_or}
-use Rattle.record.specs.Labels.{label_at, LabelOutside}
-use Rattle.record.specs.Causes.{BadCount}
-use Rattle.record.specs.Judged.{count, outside, twice}
+use lib.ListN.{get_or}
+use Rattle.record.specs.Labels.{label_at}
 use Rattle.patterns.specs.Completion.{Place}
 use Rattle.searching.specs.Places.{Places}
 use Rattle.searching.proofs.Table.{placed_none, twice_here}
 use Rattle.searching.proofs.list_places.Goals as goal
-use Rattle.searching.proofs.list_places.Goals.{After-index-at, Else-outside, then-n-eq0-via-then-n-eq0, then-n-eq0-via-else-n-eq0+then-n-gt255}
-
-counted : (c : Else-outside) → ¬ BadCount (length c.args.labels.now)
-counted c (inl z) = c.if-n-eq0.false z
-counted c (inr h) = omega (arith, c.if-n-gt255.false)
-
-inside : (c : Else-outside) → ¬ LabelOutside c.args.labels.now
-inside c = rw c.if-outside.false at c.outside.ensures
+use Rattle.searching.proofs.list_places.Goals.{After-index-at}
 
 -- what is listed for the next label
 place : (c : After-index-at)
@@ -29,22 +19,12 @@ place c =
     subst (λ (x : ℕ). Place (label_at c.args.labels.now) c.loop-i.i x (get_or c.loop-i.places label 0)) c.index-at.ensures.0
     (c.loop-i.invariant.0.each label (omega (arith, c.index-at.ensures)))
 
-pub returns-then-n-eq0 : goal.returns-then-n-eq0
-returns-then-n-eq0 c = count (elim c.then-n-eq0.branch [
-  | then-n-eq0-via-then-n-eq0 w ↦ inl w.if-n-eq0.true
-  | then-n-eq0-via-else-n-eq0+then-n-gt255 w ↦ inr w.if-n-gt255.true
-])
-
-pub returns-then-outside : goal.returns-then-outside
-returns-then-outside c =
-    outside (λ h. elim h [ inl z ↦ c.if-n-eq0.false z | inr h ↦ omega (arith, c.if-n-gt255.false) ]) (rw c.if-outside.true at c.outside.ensures)
-
 pub loop-i-init : goal.loop-i-init
 loop-i-init c = (subst (Places _ 0) (sym c.requires) (placed_none _), λ (j, from, to, again). omega arith)
 
 pub returns-then-places-at-ne0 : goal.returns-then-places-at-ne0
-returns-then-places-at-ne0 c =
+returns-then-places-at-ne0 c permutation =
     let i = c.loop-i.i in
     let at = goal.at.returns-then-places-at-ne0 c in
     let again = twice_here _ i (place at.After-index-at) (omega (arith, c.if-places-at-ne0.true)) in
-    twice (counted at.Else-outside) (inside at.Else-outside) (suc i, omega arith, omega (arith, c.loop-i-test.true), again)
+    permutation.single (suc i, omega arith, omega (arith, c.loop-i-test.true), again)

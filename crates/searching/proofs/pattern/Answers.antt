@@ -1,11 +1,14 @@
 -- `searching::pattern` meets its contract: a list that is not the labels 1 to n, each once, is refused as by Labels in.
-use mathlib.Core.Path.{◌≡◌, ◌∙◌}
-use borrow.Author.Rules.{rules}
-use Rattle.std.specs.Prelude.{Err}
-use Rattle.patterns.proofs.M105.{refused, m105_answer}
+use Rattle.record.specs.Judged.{Permutation}
+use Rattle.labels.specs.Verdicts.{verdict_refused}
+use Rattle.searching.proofs.Refused.{refused_answer}
 use Rattle.searching.proofs.pattern.Goals as goal
+use Rattle.searching.proofs.pattern.Goals.{After-judge}
 
-pub returns-in_err-list_places : goal.returns-in_err-list_places
-returns-in_err-list_places c =
-    let same : c.from_residual.result ≡ Err c.in_err-list_places.field-0.0 = search rules in
-    same ∙ m105_answer c.args.labels.now (refused c.in_err-list_places.ensures)
+not_permutation : (c : After-judge) → ¬ Permutation c.args.labels.now
+not_permutation c = rw c.if-list_places.false at c.list_places.ensures
+
+pub returns-in-Err : goal.returns-in-Err
+returns-in-Err c =
+    let labels = c.args.labels.now in
+    refused_answer labels (not_permutation (goal.at.returns-in-Err c).After-judge) (verdict_refused labels c.in-Err.ensures)
