@@ -71,6 +71,8 @@ pub fn judge(labels: &[u8]) -> Result<(), Refusal>
     ensures { result ≡ verdict_of labels.now }
 {
     let mut record = [0u8; 97];
-    labels_in(labels, &mut record)?;
-    Ok(())
+    match labels_in(labels, &mut record) {
+        Ok(_) => Ok(()),
+        Err(refusal) => Err(refusal),
+    }
 }

@@ -120,6 +120,8 @@ pub fn tidy(text: &[u8], tidy: &mut [u8]) -> Result<usize, Refusal>
     }
     // A buffer, which the reader fills by index; the labels are the part of it that was filled.
     let mut list = [0u8; 256];
-    let count = numbers::read(line_of(text), &mut list)?;
-    tidy_labels(&list[..count], tidy)
+    match numbers::read(line_of(text), &mut list) {
+        Ok(count) => tidy_labels(&list[..count], tidy),
+        Err(refusal) => Err(refusal),
+    }
 }
