@@ -116,7 +116,15 @@ fn compare_areas(lists: &CornerLists, outline: Room) -> Ordering
     requires outline_value { outline ≡ outline_of (plan_in lists.now) }
     ensures { Fills result (rooms_in lists.now) }
 {
-    areas(lists).cmp(&area(outline))
+    let total = areas(lists);
+    let whole = area(outline);
+    if total < whole {
+        return Ordering::Less;
+    }
+    if whole < total {
+        return Ordering::Greater;
+    }
+    Ordering::Equal
 }
 
 // ---- all four
