@@ -1,6 +1,6 @@
 -- What is answered for an accepted record and two groups whose last positions are known, check by check.
 use mathlib.Core.List.{List}
-use mathlib.Core.Logic.{inl, inr}
+use mathlib.Core.Logic.{◌⊎◌, inl, inr}
 use mathlib.Core.Path.{◌≡◌, ap, subst, ◌∙◌}
 use Prim.Native.Nat.{ℕ, ◌<◌}
 use native.Mathlib.Omega.{arith}
@@ -27,20 +27,20 @@ module _ {bytes : List ℕ} {n fallen : ℕ} (a : Accepts bytes n fallen) (first
   outside_of group (Some last) end h = (last, end.from, omega (arith, end.few), (end.has, h))
   outside_of group None end h = absurd h
 
-  pub first_past : Past n one → Err PositionOutside ≡ groups_answer bytes first second
-  first_past h = demand1_groups_answer bytes first second (outside a.readable (of_kind (inl (outside_of first one one_end h))))
+  pub past_rooms : (Past n one) ⊎ (Past n other) → Err PositionOutside ≡ groups_answer bytes first second
+  past_rooms past = demand1_groups_answer bytes first second (outside a.readable (of_kind (elim past [
+    | inl h ↦ inl (outside_of first one one_end h)
+    | inr h ↦ inr (outside_of second other other_end h)
+  ])))
 
-  pub second_past : Past n other → Err PositionOutside ≡ groups_answer bytes first second
-  second_past h = demand1_groups_answer bytes first second (outside a.readable (of_kind (inr (outside_of second other other_end h))))
-
-  module _ (one_in : ¬ Past n one) (other_in : ¬ Past n other) where
+  module _ (none_past : ¬ ((Past n one) ⊎ (Past n other))) where
     within : (group : List ℕ) (last : Option ℕ) → LastIn group last → ¬ Past n last → ¬ SomeIn group (λ k. n < k)
     within group (Some last) end none (k, c, d, (m, h)) = none (omega (arith, end.none_past k c d m))
     within group None end none (k, c, d, (m, h)) = end (k, c, d, m)
 
     inside : ¬ Outside n first second
-    inside (inl z) = within first one one_end one_in z
-    inside (inr z) = within second other other_end other_in z
+    inside (inl z) = within first one one_end (λ h. none_past (inl h)) z
+    inside (inr z) = within second other other_end (λ h. none_past (inr h)) z
 
     inside_kind : ¬ Outside (kind_of bytes) first second
     inside_kind = subst (λ (m : ℕ). ¬ Outside m first second) a.rooms_are inside

@@ -1,7 +1,7 @@
 // Whole groups at once: how the rooms of one group stand to those of another one.
 #![tactic(auto)]
 
-ghost use Rattle.std.specs.Prelude.{◌≡◌, ◌*◌, ◌≤◌, ◌<◌, Some, Ok};
+ghost use Rattle.std.specs.Prelude.{◌⊎◌, ◌≡◌, ◌*◌, ◌≤◌, ◌<◌, Some, Ok};
 ghost use Rattle.std.specs.Int.Bits.{bit_and};
 ghost use Rattle.finite.specs.Decide.{Tells};
 ghost use Rattle.record.specs.Labels.{label_at};
@@ -75,10 +75,17 @@ fn all_after(group: &[u8; 32], last: usize) -> bool
 // ---- what is refused of two groups
 
 // Whether a last position is past the last of n rooms.
-fn outside(n: usize, last: Option<usize>) -> bool
+fn past(n: usize, last: Option<usize>) -> bool
     ensures { Tells result (Past n last) }
 {
     last.is_some_and(|last| n < last)
+}
+
+// Whether one of two last positions is past the last of n rooms.
+fn outside(n: usize, one: Option<usize>, other: Option<usize>) -> bool
+    ensures { Tells result ((Past n one) ⊎ (Past n other)) }
+{
+    past(n, one) | past(n, other)
 }
 
 // The bits that two bytes have in common.
@@ -146,10 +153,7 @@ pub fn groups(record: &[u8], first: &[u8; 32], second: &[u8; 32]) -> Result<Opti
     let n = judging::judge(record)?.rooms;
     let one = last_position(first);
     let other = last_position(second);
-    if outside(n, one) {
-        return Err(Refusal::PositionOutside);
-    }
-    if outside(n, other) {
+    if outside(n, one, other) {
         return Err(Refusal::PositionOutside);
     }
     let Some(one) = one else {

@@ -4,7 +4,7 @@ use Rattle.std.proofs.lemmas.Result.{err_from_is_err_and}
 use Rattle.finite.specs.Decide.{told_true, told_false}
 use Rattle.judging.specs.Walkable.{readable_walkable}
 use Rattle.groups.proofs.Demand1.{refused_record, demand1_groups_answer}
-use Rattle.grouping.proofs.Asking.{first_past, second_past, first_empty, second_empty, shared_position, fits, answered}
+use Rattle.grouping.proofs.Asking.{past_rooms, first_empty, second_empty, shared_position, fits, answered}
 use Rattle.grouping.proofs.groups.Goals as goal
 
 pub returns-in_err-n : goal.returns-in_err-n
@@ -14,39 +14,30 @@ returns-in_err-n c =
 
 pub returns-then-outside : goal.returns-then-outside
 returns-then-outside c =
-    first_past c.in_ok-n.ensures c.args.first.now c.args.second.now _ _ c.last_position-one.ensures c.last_position-other.ensures
+    past_rooms c.in_ok-n.ensures c.args.first.now c.args.second.now _ _ c.last_position-one.ensures c.last_position-other.ensures
     (told_true _ _ c.if-outside.true c.outside.ensures)
-
-pub returns-then-outside-2 : goal.returns-then-outside-2
-returns-then-outside-2 c =
-    second_past c.in_ok-n.ensures c.args.first.now c.args.second.now _ _ c.last_position-one.ensures c.last_position-other.ensures
-    (told_true _ _ c.if-outside-2.true c.outside-2.ensures)
 
 pub returns-in_default : goal.returns-in_default
 returns-in_default c =
     first_empty c.in_ok-n.ensures c.args.first.now c.args.second.now _ _ c.last_position-one.ensures c.last_position-other.ensures
-    (told_false _ _ c.if-outside.false c.outside.ensures) (told_false _ _ c.if-outside-2.false c.outside-2.ensures)
-    c.in_default.ensures
+    (told_false _ _ c.if-outside.false c.outside.ensures) c.in_default.ensures
 
 pub returns-in_default-other : goal.returns-in_default-other
 returns-in_default-other c =
     second_empty c.in_ok-n.ensures c.args.first.now c.args.second.now _ _ c.last_position-one.ensures c.last_position-other.ensures
-    (told_false _ _ c.if-outside.false c.outside.ensures) (told_false _ _ c.if-outside-2.false c.outside-2.ensures)
-    c.in_default-other.ensures
+    (told_false _ _ c.if-outside.false c.outside.ensures) c.in_default-other.ensures
 
 pub returns-then-in_common : goal.returns-then-in_common
 returns-then-in_common c =
     shared_position c.in_ok-n.ensures c.args.first.now c.args.second.now _ _ c.last_position-one.ensures c.last_position-other.ensures
-    (told_false _ _ c.if-outside.false c.outside.ensures) (told_false _ _ c.if-outside-2.false c.outside-2.ensures)
-    c.in-Some.ensures c.in-Some-other.ensures (told_true _ _ c.if-in_common.true c.in_common.ensures)
+    (told_false _ _ c.if-outside.false c.outside.ensures) c.in-Some.ensures c.in-Some-other.ensures (told_true _ _ c.if-in_common.true c.in_common.ensures)
 
 pub stand-requires : goal.stand-requires
 stand-requires c =
     let a = c.in_ok-n.ensures in (
       readable_walkable a.readable a.rooms_are a.few,
       fits c.in_ok-n.ensures c.args.first.now c.args.second.now _ _ c.last_position-one.ensures c.last_position-other.ensures
-          (told_false _ _ c.if-outside.false c.outside.ensures) (told_false _ _ c.if-outside-2.false c.outside-2.ensures)
-          c.in-Some.ensures c.in-Some-other.ensures (told_false _ _ c.if-in_common.false c.in_common.ensures),
+          (told_false _ _ c.if-outside.false c.outside.ensures) c.in-Some.ensures c.in-Some-other.ensures (told_false _ _ c.if-in_common.false c.in_common.ensures),
       c.in-Some.ensures,
       c.in-Some-other.ensures,
     )
@@ -54,5 +45,4 @@ stand-requires c =
 pub returns : goal.returns
 returns c =
     c.stand.ensures ∙ answered c.in_ok-n.ensures c.args.first.now c.args.second.now _ _ c.last_position-one.ensures c.last_position-other.ensures
-    (told_false _ _ c.if-outside.false c.outside.ensures) (told_false _ _ c.if-outside-2.false c.outside-2.ensures)
-    c.in-Some.ensures c.in-Some-other.ensures (told_false _ _ c.if-in_common.false c.in_common.ensures)
+    (told_false _ _ c.if-outside.false c.outside.ensures) c.in-Some.ensures c.in-Some-other.ensures (told_false _ _ c.if-in_common.false c.in_common.ensures)
