@@ -67,6 +67,8 @@ module _ (copied : CopiedRooms) (n : ℕ) (arrays : Sized copied) (q : (1 ≤ n)
 arrays : (g : Over) (c : After-judge g) → Sized c.args.copied.now
 arrays g c = record { left = omega arith; bottom = omega arith; right = omega arith; top = omega arith; name = omega arith }
 
+-- ---- what is returned
+-- a refusal is the first cause of the rooms
 pub returns-in_err-judge : goal.returns-in_err-judge
 returns-in_err-judge g c =
     let a = c.args in
