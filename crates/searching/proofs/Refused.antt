@@ -1,5 +1,5 @@
--- What is answered for the labels 1 to n, each once, where Labels in refuses them: they have a barred pattern, so a search of all positions
--- finds one.
+-- What a refusal by Labels in tells of a list: if the labels are not 1 to n, each once, it is the answer; else they have a barred pattern,
+-- so a search of all positions finds one.
 use mathlib.Core.Bool.{false}
 use mathlib.Core.List.{List}
 use mathlib.Core.Path.{◌≡◌}

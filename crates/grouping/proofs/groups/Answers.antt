@@ -30,14 +30,16 @@ returns-in_default-other c =
 pub returns-then-in_common : goal.returns-then-in_common
 returns-then-in_common c =
     shared_position c.in_ok-n.ensures c.args.first.now c.args.second.now _ _ c.last_position-one.ensures c.last_position-other.ensures
-    (told_false _ _ c.if-outside.false c.outside.ensures) c.in-Some.ensures c.in-Some-other.ensures (told_true _ _ c.if-in_common.true c.in_common.ensures)
+    (told_false _ _ c.if-outside.false c.outside.ensures) c.in-Some.ensures c.in-Some-other.ensures
+    (told_true _ _ c.if-in_common.true c.in_common.ensures)
 
 pub stand-requires : goal.stand-requires
 stand-requires c =
     let a = c.in_ok-n.ensures in (
       readable_walkable a.readable a.rooms_are a.few,
       fits c.in_ok-n.ensures c.args.first.now c.args.second.now _ _ c.last_position-one.ensures c.last_position-other.ensures
-          (told_false _ _ c.if-outside.false c.outside.ensures) c.in-Some.ensures c.in-Some-other.ensures (told_false _ _ c.if-in_common.false c.in_common.ensures),
+          (told_false _ _ c.if-outside.false c.outside.ensures) c.in-Some.ensures c.in-Some-other.ensures
+          (told_false _ _ c.if-in_common.false c.in_common.ensures),
       c.in-Some.ensures,
       c.in-Some-other.ensures,
     )
@@ -45,4 +47,5 @@ stand-requires c =
 pub returns : goal.returns
 returns c =
     c.stand.ensures ∙ answered c.in_ok-n.ensures c.args.first.now c.args.second.now _ _ c.last_position-one.ensures c.last_position-other.ensures
-    (told_false _ _ c.if-outside.false c.outside.ensures) c.in-Some.ensures c.in-Some-other.ensures (told_false _ _ c.if-in_common.false c.in_common.ensures)
+    (told_false _ _ c.if-outside.false c.outside.ensures) c.in-Some.ensures c.in-Some-other.ensures
+    (told_false _ _ c.if-in_common.false c.in_common.ensures)
